@@ -1,0 +1,71 @@
+-- What a record without fault tells, by its kind.
+-- Assumes nothing.
+use mathlib.Core.Path.{_≡_, sym, _∙_}
+use mathlib.Core.Logic.{_≢_}
+use mathlib.Core.Bool.{true, false, not, _&&_, and-eq-true-iff, true≢false}
+use mathlib.Core.List.{List, [], _∷_}
+use Prim.Native.Nat.{ℕ, zero, suc, _≤_, _<_}
+use native.Mathlib.Omega.{arith}
+use lib.Dec.{leb, ltb, eqb}
+use lib.ListN.{length, getD}
+use borrow.Author.Tests.{ltb-true, leb-true, leb-false, eqb-true, eqb-false, not-false}
+use Rattle.plain.proofs.Tests.{not-refused, not-missed}
+use Rattle.study.specs.Study.{Condition, Action, Study, actionAt, conditionAt}
+use Rattle.study.specs.Reading.{Record, variable, action, condition, task, seed, end, inRange, sets, above, lastAction, fault}
+use Rattle.study.proofs.Setters.{one-sets}
+use Rattle.lawful.specs.Lawful.{Has}
+
+pub in-range-has : (s : Study) (v q : ℕ) → inRange s v q ≡ true → Has (s .counts) v q
+in-range-has s v q e =
+    let t = and-eq-true-iff (ltb v (length (s .counts))) (ltb q (getD (s .counts) v 0)) .0 e in
+    record { there = ltb-true v (length (s .counts)) (t .0); small = ltb-true q (getD (s .counts) v 0) (t .1) }
+
+-- no action of the list sets the variable to the value
+abbrev pub NoneSets : List Action → ℕ → ℕ → Type 0
+NoneSets actions v q = (i : ℕ) → i < length actions → actionAt actions i .var ≡ v → actionAt actions i .post ≡ q → ⊥
+
+pub none-sets : (actions : List Action) (v q : ℕ) → sets actions v q ≡ false → NoneSets actions v q
+none-sets actions v q e i h x y = true≢false (sym (one-sets actions v q i (record { there = h; var = x; post = y })) ∙ e)
+
+-- the last condition's variable is below
+pub above-last : (cs : List Condition) (v : ℕ) → above cs v ≡ true → (k : ℕ) → suc k ≡ length cs → conditionAt cs k .var < v
+unfolding above
+above-last [] v e k h = absurd (omega arith)
+above-last (c ∷ []) v e zero h = ltb-true (c .var) v e
+above-last (c ∷ []) v e (suc k) h = absurd (omega arith)
+above-last (c ∷ (d ∷ rest)) v e zero h = absurd (omega arith)
+above-last (c ∷ (d ∷ rest)) v e (suc k) h = above-last (d ∷ rest) v e k (omega arith)
+
+abbrev pub Faultless : Study → Record → Type 0
+Faultless s (variable n) = (length (s .counts) < 32) × (2 ≤ n) × (n ≤ 16)
+Faultless s (action v p q) = (length (s .actions) < 256) × Has (s .counts) v p × Has (s .counts) v q × (p ≢ q) × NoneSets (s .actions) v q
+Faultless s (condition v q) = Has (s .counts) v q × (v ≢ lastAction s .var) × (above (lastAction s .conditions) v ≡ true)
+Faultless s (task v p q) = (v ≡ length (s .tasks)) × Has (s .counts) v p × Has (s .counts) v q
+Faultless s (seed n) = (1 ≤ n) × (n ≤ 2147483646)
+Faultless s end = Unit
+
+pub faultless : (s : Study) (r : Record) → fault s r ≡ 0 → Faultless s r
+unfolding fault
+faultless s (variable n) e =
+    let a = not-refused (leb 32 (length (s .counts))) 3 _ e in
+    let b = and-eq-true-iff (leb 2 n) (leb n 16) .0 (not-missed _ 4 (a .1)) in
+    (leb-false 32 (length (s .counts)) (a .0), leb-true 2 n (b .0), leb-true n 16 (b .1))
+faultless s (action v p q) e =
+    let a = not-refused (leb 256 (length (s .actions))) 3 _ e in
+    let b = not-refused (not (inRange s v p && inRange s v q)) 4 _ (a .1) in
+    let c = not-refused (eqb p q) 5 _ (b .1) in
+    let d = not-refused (sets (s .actions) v q) 6 _ (c .1) in
+    let r = and-eq-true-iff (inRange s v p) (inRange s v q) .0 (not-false _ (b .0)) in
+    (leb-false 256 (length (s .actions)) (a .0), in-range-has s v p (r .0), in-range-has s v q (r .1), eqb-false p q (c .0), none-sets (s .actions) v q (d .0))
+faultless s (condition v q) e =
+    let a = not-refused (not (inRange s v q)) 4 _ e in
+    let b = not-refused (eqb v (lastAction s .var)) 5 _ (a .1) in
+    (in-range-has s v q (not-false _ (a .0)), eqb-false v (lastAction s .var) (b .0), not-missed _ 5 (b .1))
+faultless s (task v p q) e =
+    let a = and-eq-true-iff (eqb v (length (s .tasks))) (inRange s v p && inRange s v q) .0 (not-missed _ 4 e) in
+    let b = and-eq-true-iff (inRange s v p) (inRange s v q) .0 (a .1) in
+    (eqb-true v (length (s .tasks)) (a .0), in-range-has s v p (b .0), in-range-has s v q (b .1))
+faultless s (seed n) e =
+    let a = and-eq-true-iff (leb 1 n) (leb n 2147483646) .0 (not-missed _ 4 e) in
+    (leb-true 1 n (a .0), leb-true n 2147483646 (a .1))
+faultless s end e = tt

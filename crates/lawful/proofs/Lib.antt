@@ -1,0 +1,6 @@
+pub mod Order
+pub mod Faults
+pub mod Grown
+pub mod Sound
+pub mod Loads
+pub mod Conditions

@@ -1,0 +1,77 @@
+-- A file that loads says a lawful study.
+-- Assumes nothing.
+use mathlib.Core.Path.{_≡_, refl, subst}
+use mathlib.Core.List.{List}
+use Prim.Native.Nat.{ℕ, zero, suc, _+_}
+use lib.Dec.{ltb}
+use lib.ListN.{length}
+use Rattle.plain.proofs.Tests.{picked}
+use Rattle.records.specs.Records.{recordAt}
+use Rattle.records.specs.declared.Found.{Found}
+use Rattle.records.specs.declared.Found.the-variants.{There, Unknown, Cut, Ended}
+use Rattle.study.specs.Study.{Study}
+use Rattle.study.specs.Reading.{Said, says, refused, Record, variable, action, condition, task, seed, end, recordFrom, Draft, blank, tasksLeft, allowed, fault}
+use Rattle.study.specs.Reading.{Verdict, settled, onward, taken, unless, judged, verdictAt, follow, readOn, reading}
+use Rattle.lawful.specs.Lawful.{Lawful}
+use Rattle.lawful.proofs.Order.{Follows, may-follow}
+use Rattle.lawful.proofs.Faults.{Faultless, faultless}
+use Rattle.lawful.proofs.Sound.{Sound, blank-sound, variable-sound, action-sound, condition-sound, task-sound, seed-sound, end-lawful}
+
+-- a study that is said is lawful
+abbrev pub LawfulIfSaid : Said → Type 0
+LawfulIfSaid (says s) = Lawful s
+LawfulIfSaid (refused n place) = Unit
+
+-- .. and a draft to read on with is sound
+abbrev pub SoundVerdict : Verdict → Type 0
+SoundVerdict (settled s) = LawfulIfSaid s
+SoundVerdict (onward at d) = Sound d
+
+unless-sound : (n at : ℕ) (v : Verdict) → (n ≡ 0 → SoundVerdict v) → SoundVerdict (unless n at v)
+unfolding unless
+unless-sound zero at v f = f refl
+unless-sound (suc n) at v f = tt
+
+module _ (file : List ℕ) {d : Draft} (sound : Sound d) where
+  taken-sound :
+      (kind next : ℕ) (r : Record)
+      → Follows (tasksLeft (d .study)) (d .last) kind r → Faultless (d .study) r → SoundVerdict (taken file d kind next r)
+  unfolding taken
+  taken-sound kind next (variable n) = variable-sound sound kind n
+  taken-sound kind next (action v p q) = action-sound sound kind v p q
+  taken-sound kind next (condition v q) = condition-sound sound kind v q
+  taken-sound kind next (task v p q) = task-sound sound kind v p q
+  taken-sound kind next (seed n) = seed-sound sound kind n
+  taken-sound kind next end = λ last _. picked LawfulIfSaid (ltb next (length file)) (λ _. tt) (λ _. end-lawful sound last)
+
+  judged-sound : (at : ℕ) (f : Found) → SoundVerdict (judged file at d f)
+  unfolding judged
+  judged-sound at (There kind start next) =
+      picked SoundVerdict (allowed d kind)
+      (λ a. unless-sound (fault (d .study) r) at _
+      (λ e. taken-sound kind next r (may-follow (tasksLeft (d .study)) (d .last) kind _ _ _ _ a) (faultless (d .study) r e)))
+      (λ _. tt)
+    where
+      r : Record
+      r = recordFrom file start kind
+  judged-sound at (Unknown place) = tt
+  judged-sound at (Cut kind place) = tt
+  judged-sound at (Ended place) = tt
+
+  pub verdict-sound : (at : ℕ) → SoundVerdict (verdictAt file at d)
+  unfolding verdictAt
+  verdict-sound at = judged-sound at (recordAt file at)
+
+follow-lawful : (v : Verdict) (read : ℕ → Draft → Said) → SoundVerdict v → ((at : ℕ) (d : Draft) → Sound d → LawfulIfSaid (read at d)) → LawfulIfSaid (follow v read)
+follow-lawful (settled s) read h f = h
+follow-lawful (onward at d) read h f = f at d h
+
+pub read-on-lawful : (n : ℕ) (file : List ℕ) (at : ℕ) (d : Draft) → Sound d → LawfulIfSaid (readOn n file at d)
+unfolding readOn
+read-on-lawful zero file at d sound = tt
+read-on-lawful (suc n) file at d sound =
+    follow-lawful (verdictAt file at d) (readOn n file) (verdict-sound file sound at) (read-on-lawful n file)
+
+pub loads-lawful : (file : List ℕ) (s : Study) → reading file ≡ says s → Lawful s
+unfolding reading
+loads-lawful file s e = subst LawfulIfSaid e (read-on-lawful (length file + 1) file 0 blank blank-sound)

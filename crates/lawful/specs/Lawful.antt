@@ -1,0 +1,46 @@
+-- Lawful studies: the limits of document 01 and the SAS demands on actions (values in range, pre differs from post, post-unique, conditions rising and on other variables).
+-- Assumes nothing.
+use Prim.Native.Nat.{ℕ, suc, _≤_, _<_}
+use mathlib.Core.Path.{_≡_}
+use mathlib.Core.Logic.{_≢_}
+use mathlib.Core.List.{List}
+use lib.ListN.{length, getD}
+use Rattle.study.specs.Study.{Condition, Action, Task, Study, actionAt, taskAt, conditionAt}
+
+-- the variable is there, and the value is one of its values
+pub record Has (counts : List ℕ) (v q : ℕ) : Type 0 where
+  pub there : v < length counts
+  pub small : q < getD counts v 0
+
+pub record LawfulConditions (counts : List ℕ) (own : ℕ) (conditions : List Condition) : Type 0 where
+  pub has : (k : ℕ) → k < length conditions → Has counts (conditionAt conditions k .var) (conditionAt conditions k .value)
+  pub other : (k : ℕ) → k < length conditions → conditionAt conditions k .var ≢ own
+  pub rising : (k : ℕ) → suc k < length conditions → conditionAt conditions k .var < conditionAt conditions (suc k) .var
+
+pub record LawfulAction (counts : List ℕ) (a : Action) : Type 0 where
+  pub has-pre : Has counts (a .var) (a .pre)
+  pub has-post : Has counts (a .var) (a .post)
+  pub changes : a .pre ≢ a .post
+  pub conditions : LawfulConditions counts (a .var) (a .conditions)
+
+-- no two actions set the same variable to the same value
+abbrev pub PostUnique : List Action → Type 0
+PostUnique actions =
+    (i j : ℕ) → i < length actions → j < length actions
+    → actionAt actions i .var ≡ actionAt actions j .var
+    → actionAt actions i .post ≡ actionAt actions j .post
+    → i ≡ j
+
+pub record Lawful (s : Study) : Type 0 where
+  pub some-variable : 1 ≤ length (s .counts)
+  pub few-variables : length (s .counts) ≤ 32
+  pub some-values : (v : ℕ) → v < length (s .counts) → 2 ≤ getD (s .counts) v 0
+  pub few-values : (v : ℕ) → v < length (s .counts) → getD (s .counts) v 0 ≤ 16
+  pub few-actions : length (s .actions) ≤ 256
+  pub action : (i : ℕ) → i < length (s .actions) → LawfulAction (s .counts) (actionAt (s .actions) i)
+  pub post-unique : PostUnique (s .actions)
+  pub a-task-each : length (s .tasks) ≡ length (s .counts)
+  pub has-start : (v : ℕ) → v < length (s .tasks) → Has (s .counts) v (taskAt (s .tasks) v .start)
+  pub has-goal : (v : ℕ) → v < length (s .tasks) → Has (s .counts) v (taskAt (s .tasks) v .goal)
+  pub seed-low : 1 ≤ s .seed
+  pub seed-high : s .seed ≤ 2147483646

@@ -1,0 +1,218 @@
+-- Each kind of record, taken: the step answers to the verdict, and stays safe.
+-- Assumes nothing.
+use mathlib.Core.Path.{_≡_, refl, sym, ap, subst, _∙_}
+use mathlib.Core.Bool.{Bool, true, false}
+use mathlib.Core.Logic.{_⊎_, inl, inr}
+use mathlib.Core.List.{List, [], _∷_}
+use Prim.Native.Nat.{ℕ, zero, suc, _+_, _-_, _*_, _≤_, _<_}
+use native.Mathlib.Omega.{arith}
+use lib.Dec.{eqb, ltb, eqb·suc-zero}
+use lib.ListN.{length, getD, set}
+use borrow.Author.Tests.{ltb-true, ltb-false}
+use types.Run.{OneOf}
+use denote.Enum.Declared.{tagOf}
+use Rattle.plain.specs.Choose.{pick}
+use Rattle.records.specs.Records.{recordAt, bodyLength, bodyLengths}
+use Rattle.records.specs.declared.Found.{Found}
+use Rattle.records.specs.declared.Found.the-variants.{There, Unknown, Cut, Ended}
+use Rattle.records.proofs.Found.{the-type}
+use Rattle.records.proofs.Laws.{Lies, there-lies}
+use Rattle.study.specs.Reading.{says, refused, Draft, Verdict, settled, onward, allowed, mayFollow, unless, fault, with, decoded, recordFrom, taken, judged, verdictAt, variable, action, condition, task, seed}
+use Rattle.study.proofs.Verdicts.{verdict-by, verdict-allowed}
+use Rattle.lawful.proofs.Order.{may-follow}
+use Rattle.loader.specs.declared.Progress.{Progress}
+use Rattle.loader.specs.declared.Step.{Step}
+use Rattle.loader.specs.declared.Step.the-variants.{On, Refused, Done}
+use Rattle.loader.specs.Tables.{ActionTables, Tables, tables, actionTables, HoldsTasks, Holds}
+use Rattle.loader.specs.Steps.{Safe, Stands, Further, Meets, unlessFault, stored, storedAction, afterVariable, afterAction, afterCondition, afterTask, afterSeed, variableFault, actionFault, conditionFault, taskFault, seedFault, seedOf, afterEnd, notThere}
+use Rattle.loader.proofs.Told.{variable-fault-is, action-fault-is, condition-fault-is, task-fault-is, seed-fault-is}
+use Rattle.loader.proofs.Entered.{variable-entered, action-entered, condition-entered, task-entered, seed-entered}
+use Rattle.loader.proofs.Kept.{variable-kept, action-kept, condition-kept, task-kept, seed-kept}
+
+-- what a step is to do
+abbrev pub Answers : List ℕ → Progress → Tables → Tables → Step → Type 0
+Answers file p t t′ r = Further file (p .at) (t′ .counts) r × ((d : Draft) → Stands file p t d → Meets file (verdictAt file (p .at) d) t′ r)
+
+pub allowed-is : {file : List ℕ} {p : Progress} {t : Tables} {d : Draft} → Stands file p t d → (kind : ℕ) → allowed d kind ≡ mayFollow (ltb (p .tasks) (p .vars)) (p .last) kind
+allowed-is stands kind = rw (stands .tasks .count, stands .counts .count, stands .last)
+
+-- the body of a record of a given kind lies inside the file
+pub body-inside : (file : List ℕ) (at : ℕ) {kind start next : ℕ} → recordAt file at ≡ There kind start next → (k : ℕ) → kind ≡ k → start + bodyLength k ≤ length file
+body-inside file at there k e = let l = there-lies file at there in rw (← e) (omega (arith, l .starts, l .goes-on, l .whole))
+
+further-unless :
+    (file : List ℕ) (counts : Bool → List ℕ) (p after : Progress) (f : ℕ)
+    → (f ≡ 0 → (p .at < after .at) × Safe file after (counts true))
+    → Further file (p .at) (counts (eqb f 0)) (unlessFault f p after)
+further-unless file counts p after zero h = h refl
+further-unless file counts p after (suc n) h = rw (eqb·suc-zero n) tt
+
+meets-unless :
+    (file : List ℕ) (t : Bool → Tables) (p after : Progress) {v : Verdict} (d : Draft) (f : ℕ)
+    → v ≡ unless f (p .at) (onward (after .at) d)
+    → (f ≡ 0 → Stands file after (t true) d)
+    → Meets file v (t (eqb f 0)) (unlessFault f p after)
+unfolding unless
+meets-unless file t p after d zero e h = (d, e, h refl)
+meets-unless file t p after d (suc n) e h = rw (eqb·suc-zero n) e
+
+module _ (file : List ℕ) (p : Progress) (start next : ℕ) (t : Tables) (safe : Safe file p (t .counts)) where
+  -- what the entries ask for
+  pub action-place : recordAt file (p .at) ≡ There 2 start next → mayFollow (ltb (p .tasks) (p .vars)) (p .last) 2 ≡ true → next < 65536
+  unfolding decoded bodyLength bodyLengths
+  action-place there may =
+      let l = there-lies file (p .at) there in
+      let m = may-follow (ltb (p .tasks) (p .vars)) (p .last) 2 0 0 0 0 may in
+      omega (arith, safe .short (m .2))
+
+  pub condition-action : mayFollow (ltb (p .tasks) (p .vars)) (p .last) 3 ≡ true → 1 ≤ p .actions
+  unfolding decoded
+  condition-action may = let m = may-follow (ltb (p .tasks) (p .vars)) (p .last) 3 0 0 0 0 may in safe .some-action (m .1) (m .2)
+
+  pub variable-arm :
+      recordAt file (p .at) ≡ There 1 start next
+      → mayFollow (ltb (p .tasks) (p .vars)) (p .last) 1 ≡ true
+      → (n : ℕ) → n ≡ getD file start 0
+      → Answers file p t
+      (tables (stored (variableFault (p .vars) n) (t .counts) (p .vars) n) (t .acts) (t .starts) (t .goals))
+      (unlessFault (variableFault (p .vars) n) p (afterVariable p next))
+  unfolding decoded taken bodyLength bodyLengths
+  variable-arm there may n en =
+      let l = there-lies file (p .at) there in
+      let m = may-follow (ltb (p .tasks) (p .vars)) (p .last) 1 0 0 0 0 may in
+      let f = variableFault (p .vars) n in (
+        further-unless file (λ b. pick b (set (t .counts) (p .vars) n) (t .counts)) p (afterVariable p next) f
+            (λ z. (omega arith, variable-kept safe next (l .whole) n z (m .1) (omega arith))),
+        λ d s. meets-unless file (λ b. tables (pick b (set (t .counts) (p .vars) n) (t .counts)) (t .acts) (t .starts) (t .goals)) p (afterVariable p next)
+            (record { study = with (d .study) (variable n); last = 1 }) f
+            (rw (variable-fault-is s n, en) (verdict-allowed file (p .at) d there (allowed-is s 1 ∙ may)))
+            (λ z. variable-entered s next n (sym (variable-fault-is s n) ∙ z)),
+      )
+
+  pub action-arm :
+      recordAt file (p .at) ≡ There 2 start next
+      → mayFollow (ltb (p .tasks) (p .vars)) (p .last) 2 ≡ true
+      → (v x y : ℕ) → v ≡ getD file start 0 → x ≡ getD file (start + 1) 0 → y ≡ getD file (start + 2) 0
+      → (f : ℕ) → f ≡ actionFault (t .counts) (t .acts .setters) (t .acts .vars) (t .acts .posts) (p .vars) (p .actions) v x y
+      → Answers file p t (tables (t .counts) (storedAction f (p .actions) v x y next (t .acts)) (t .starts) (t .goals)) (unlessFault f p (afterAction p v next))
+  unfolding decoded taken bodyLength bodyLengths
+  action-arm there may v x y ev ex ey f ef =
+      let l = there-lies file (p .at) there in
+      let m = may-follow (ltb (p .tasks) (p .vars)) (p .last) 2 0 0 0 0 may in
+      let a = t .acts in (
+        further-unless file (λ b. t .counts) p (afterAction p v next) f
+            (λ z. (omega arith, action-kept safe next (l .whole) (a .setters) (a .vars) (a .posts) v x y (sym ef ∙ z) (m .2) (omega arith))),
+        λ d s. meets-unless file
+            (λ b. tables (t .counts)
+            (actionTables (pick b (set (a .setters) (16 * v + y) (p .actions)) (a .setters)) (pick b (set (a .vars) (p .actions) v) (a .vars)) (pick b (set (a .pres) (p .actions) x) (a .pres))
+            (pick b (set (a .posts) (p .actions) y) (a .posts)) (pick b (set (a .places) (p .actions) next) (a .places)) (pick b (set (a .manys) (p .actions) 0) (a .manys)))
+            (t .starts) (t .goals))
+            p (afterAction p v next) (record { study = with (d .study) (action v x y); last = 2 }) f
+            (rw (ef ∙ action-fault-is s v x y, ev, ex, ey) (verdict-allowed file (p .at) d there (allowed-is s 2 ∙ may)))
+            (λ z. action-entered s next v x y (sym (action-fault-is s v x y) ∙ (sym ef ∙ z)) (l .whole)),
+      )
+
+  pub condition-arm :
+      recordAt file (p .at) ≡ There 3 start next
+      → mayFollow (ltb (p .tasks) (p .vars)) (p .last) 3 ≡ true
+      → (v q : ℕ) → v ≡ getD file start 0 → q ≡ getD file (start + 1) 0
+      → (f : ℕ) → f ≡ conditionFault (t .counts) (p .vars) (p .own) (p .above) v q
+      → Answers file p t
+      (tables (t .counts)
+      (actionTables (t .acts .setters) (t .acts .vars) (t .acts .pres) (t .acts .posts) (t .acts .places) (stored f (t .acts .manys) (p .actions - 1) (p .many + 1)))
+      (t .starts) (t .goals))
+      (unlessFault f p (afterCondition p v next))
+  unfolding decoded taken bodyLength bodyLengths
+  condition-arm there may v q ev eq f ef =
+      let l = there-lies file (p .at) there in
+      let m = may-follow (ltb (p .tasks) (p .vars)) (p .last) 3 0 0 0 0 may in
+      let a = t .acts in
+      let second : getD file (p .at + 2) 0 ≡ q = sym (eq ∙ ap (λ (i : ℕ). getD file i 0) (omega arith)) in (
+        further-unless file (λ b. t .counts) p (afterCondition p v next) f
+            (λ z. (omega arith, condition-kept safe next (l .whole) v q (sym ef ∙ z) (m .1) (m .2) (omega arith))),
+        λ d s. meets-unless file
+            (λ b. tables (t .counts) (actionTables (a .setters) (a .vars) (a .pres) (a .posts) (a .places) (pick b (set (a .manys) (p .actions - 1) (p .many + 1)) (a .manys))) (t .starts) (t .goals))
+            p (afterCondition p v next) (record { study = with (d .study) (condition v q); last = 3 }) f
+            (rw (ef ∙ condition-fault-is s v q, ev, eq) (verdict-allowed file (p .at) d there (allowed-is s 3 ∙ may)))
+            (λ z. condition-entered s next v q (sym (condition-fault-is s v q) ∙ (sym ef ∙ z)) (m .1) (m .2) (safe .some-action (m .1) (m .2)) (omega arith) (l .whole)
+            (sym (ev ∙ ap (λ (i : ℕ). getD file i 0) (l .starts))) second),
+      )
+
+  pub task-arm :
+      recordAt file (p .at) ≡ There 4 start next
+      → mayFollow (ltb (p .tasks) (p .vars)) (p .last) 4 ≡ true
+      → (v x y : ℕ) → v ≡ getD file start 0 → x ≡ getD file (start + 1) 0 → y ≡ getD file (start + 2) 0
+      → (f : ℕ) → f ≡ taskFault (t .counts) (p .vars) (p .tasks) v x y
+      → Answers file p t (tables (t .counts) (t .acts) (stored f (t .starts) v x) (stored f (t .goals) v y)) (unlessFault f p (afterTask p next))
+  unfolding decoded taken bodyLength bodyLengths
+  task-arm there may v x y ev ex ey f ef =
+      let l = there-lies file (p .at) there in
+      let m = may-follow (ltb (p .tasks) (p .vars)) (p .last) 4 0 0 0 0 may in (
+        further-unless file (λ b. t .counts) p (afterTask p next) f (λ z. (omega arith, task-kept safe next (l .whole))),
+        λ d s. meets-unless file (λ b. tables (t .counts) (t .acts) (pick b (set (t .starts) v x) (t .starts)) (pick b (set (t .goals) v y) (t .goals))) p (afterTask p next)
+            (record { study = with (d .study) (task v x y); last = 4 }) f
+            (rw (ef ∙ task-fault-is s v x y, ev, ex, ey) (verdict-allowed file (p .at) d there (allowed-is s 4 ∙ may)))
+            (λ z. task-entered s next v x y (sym (task-fault-is s v x y) ∙ (sym ef ∙ z)) (ltb-true (p .tasks) (p .vars) (m .2))),
+      )
+
+  pub seed-arm :
+      recordAt file (p .at) ≡ There 5 start next
+      → mayFollow (ltb (p .tasks) (p .vars)) (p .last) 5 ≡ true
+      → (n : ℕ) → n ≡ seedOf (getD file start 0) (getD file (start + 1) 0) (getD file (start + 2) 0) (getD file (start + 3) 0)
+      → Answers file p t t (unlessFault (seedFault n) p (afterSeed p n next))
+  unfolding decoded taken bodyLength bodyLengths
+  seed-arm there may n en =
+      let l = there-lies file (p .at) there in
+      let m = may-follow (ltb (p .tasks) (p .vars)) (p .last) 5 0 0 0 0 may in (
+        further-unless file (λ b. t .counts) p (afterSeed p n next) (seedFault n) (λ z. (omega arith, seed-kept safe next (l .whole) n)),
+        λ d s. meets-unless file (λ b. t) p (afterSeed p n next) (record { study = with (d .study) (seed n); last = 5 }) (seedFault n)
+            (rw (seed-fault-is s n, en) (verdict-allowed file (p .at) d there (allowed-is s 5 ∙ may)))
+            (λ z. seed-entered s next n (sym (seed-fault-is s n) ∙ z) (ltb-false (p .tasks) (p .vars) (m .2))),
+      )
+
+  pub end-arm :
+      recordAt file (p .at) ≡ There 6 start next
+      → mayFollow (ltb (p .tasks) (p .vars)) (p .last) 6 ≡ true
+      → Answers file p t t (afterEnd p (length file) next)
+  unfolding decoded taken fault unless
+  end-arm there may = (
+    further-at-end (ltb next (length file)),
+    λ d s. meets-at-end d s (ltb next (length file)) (verdict-allowed file (p .at) d there (allowed-is s 6 ∙ may)),
+  )
+    where
+      last-is : p .last ≡ 5
+      last-is = may-follow (ltb (p .tasks) (p .vars)) (p .last) 6 0 0 0 0 may
+
+      further-at-end : (b : Bool) → Further file (p .at) (t .counts) (pick b (Refused 8 next) (Done p))
+      further-at-end true = tt
+      further-at-end false = tt
+
+      meets-at-end : (d : Draft) → Stands file p t d → (b : Bool) {v : Verdict} → v ≡ settled (pick b (refused 8 next) (says (d .study))) → Meets file v t (pick b (Refused 8 next) (Done p))
+      meets-at-end d s true e = e
+      meets-at-end d s false e = (
+        d .study,
+        e,
+        record {
+          sized = s .sized;
+          counts = s .counts;
+          actions = s .actions;
+          tasks = subst (λ (n : ℕ). HoldsTasks n (t .starts) (t .goals) (d .study .tasks)) (let all = s .all-tasks (omega (arith, last-is)) in omega arith) (s .tasks);
+          seed = s .seed;
+        },
+      )
+
+-- what stands where no whole record of a known kind does
+module _ (file : List ℕ) (p : Progress) (t : Tables) where
+  pub not-there-arm :
+      (f : Found) → recordAt file (p .at) ≡ f → OneOf (1 ∷ 2 ∷ 3 ∷ []) (tagOf the-type f)
+      → Answers file p t t (notThere (ltb (p .tasks) (p .vars)) (p .last) f)
+  unfolding judged
+  not-there-arm (There kind start next) e h = absurd (none h)
+    where
+      none : OneOf (1 ∷ 2 ∷ 3 ∷ []) 0 → ⊥
+      none (inl x) = omega arith
+      none (inr (inl x)) = omega arith
+      none (inr (inr x)) = omega arith
+  not-there-arm (Unknown place) e h = (tt, λ d s. verdict-by file (p .at) d e)
+  not-there-arm (Cut kind place) e h = (tt, λ d s. rw (← allowed-is s kind) (verdict-by file (p .at) d e))
+  not-there-arm (Ended place) e h = (tt, λ d s. verdict-by file (p .at) d e)

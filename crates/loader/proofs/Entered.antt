@@ -1,0 +1,181 @@
+-- A record taken without fault: the tables with its entry answer to the draft with it.
+-- Assumes nothing.
+use mathlib.Core.Path.{_≡_, refl, sym, ap, _∙_}
+use mathlib.Core.List.{List, []}
+use Prim.Native.Nat.{ℕ, _+_, _-_, _*_, _≤_, _<_}
+use native.Mathlib.Numerals.{add-one}
+use native.Mathlib.Omega.{arith}
+use lib.ListN.{length, getD, set, length-set}
+use lib.Seq.{getD-set-same}
+use borrow.Author.Tests.{le-leb}
+use Rattle.study.specs.Study.{Action, Task, noAction, noTask}
+use Rattle.study.specs.Reading.{Draft, fault, with, variable, action, condition, task, seed, above, lastAction, withCondition}
+use Rattle.plain.proofs.Lists.{length-more}
+use Rattle.lawful.proofs.Faults.{faultless}
+use Rattle.loader.proofs.Grows.{each-entered, table-more, last-entered, last-more, last-set}
+use Rattle.loader.proofs.Actions.{actions-more}
+use Rattle.loader.proofs.Conditions.{above-more, action-with-condition}
+use Rattle.loader.specs.declared.Progress.{Progress}
+use Rattle.loader.specs.Tables.{Tables, tables, actionTables}
+use Rattle.loader.specs.Steps.{Stands, afterVariable, afterAction, afterCondition, afterTask, afterSeed}
+
+module _ {file : List ℕ} {p : Progress} {t : Tables} {d : Draft} (stands : Stands file p t d) (next : ℕ) where
+  pub variable-entered :
+      (n : ℕ)
+      → fault (d .study) (variable n) ≡ 0
+      → Stands file (afterVariable p next) (tables (set (t .counts) (p .vars) n) (t .acts) (t .starts) (t .goals)) (record { study = with (d .study) (variable n); last = 1 })
+  unfolding with
+  variable-entered n good = let (few, low, high) = faultless (d .study) (variable n) good in record {
+    sized = omega (arith, length-set (t .counts) (p .vars) n);
+    counts = record {
+      count = omega (arith, length-more (d .study .counts) n);
+      few = omega arith;
+      small = each-entered (λ _ m. m ≤ 16) (t .counts) (p .vars) n (omega arith) (stands .counts .small) high;
+      value = table-more (d .study .counts) n 0 (λ m. m) (t .counts) (p .vars) (stands .counts .count) (omega arith) (stands .counts .value);
+    };
+    actions = stands .actions;
+    tasks = stands .tasks;
+    few-tasks = omega arith;
+    all-tasks = λ h. absurd (omega arith);
+    last = refl;
+    own = stands .own;
+    above = stands .above;
+    seed = stands .seed;
+    next-condition = λ h. absurd (omega arith);
+    counted = λ h. absurd (omega arith);
+  }
+
+  pub action-entered :
+      (v x y : ℕ)
+      → fault (d .study) (action v x y) ≡ 0
+      → next ≤ length file
+      → Stands file (afterAction p v next)
+      (tables (t .counts)
+      (actionTables (set (t .acts .setters) (16 * v + y) (p .actions)) (set (t .acts .vars) (p .actions) v) (set (t .acts .pres) (p .actions) x) (set (t .acts .posts) (p .actions) y)
+      (set (t .acts .places) (p .actions) next) (set (t .acts .manys) (p .actions) 0))
+      (t .starts) (t .goals))
+      (record { study = with (d .study) (action v x y); last = 2 })
+  unfolding with above
+  action-entered v x y good room = let (few, has-pre, has-post, differ, none) = faultless (d .study) (action v x y) good in record {
+    sized = omega (
+      arith,
+      length-set (t .acts .setters) (16 * v + y) (p .actions),
+      length-set (t .acts .vars) (p .actions) v,
+      length-set (t .acts .pres) (p .actions) x,
+      length-set (t .acts .posts) (p .actions) y,
+      length-set (t .acts .places) (p .actions) next,
+      length-set (t .acts .manys) (p .actions) 0,
+    );
+    counts = stands .counts;
+    actions = actions-more (stands .sized) (stands .actions) v x y next (omega arith) (omega arith)
+        (omega (arith, stands .counts .small v (omega arith), stands .counts .value v (omega arith))) none room;
+    tasks = stands .tasks;
+    few-tasks = stands .few-tasks;
+    all-tasks = λ h. absurd (omega arith);
+    last = refl;
+    own = sym (ap (λ a. a .var) last);
+    above = λ z. rw (last, le-leb 0 z (omega arith));
+    seed = stands .seed;
+    next-condition = λ h g. omega (arith, last-entered (t .acts .places) (p .actions) next (omega arith));
+    counted = λ h g. last-entered (t .acts .manys) (p .actions) 0 (omega arith);
+  }
+    where
+      new : Action
+      new = record { var = v; pre = x; post = y; conditions = [] }
+
+      last : lastAction (with (d .study) (action v x y)) ≡ new
+      last = last-more (d .study .actions) new noAction
+
+  pub condition-entered :
+      (v q : ℕ)
+      → fault (d .study) (condition v q) ≡ 0
+      → 2 ≤ p .last
+      → p .last ≤ 3
+      → 1 ≤ p .actions
+      → next ≡ p .at + 3
+      → next ≤ length file
+      → getD file (p .at + 1) 0 ≡ v
+      → getD file (p .at + 2) 0 ≡ q
+      → Stands file (afterCondition p v next)
+      (tables (t .counts)
+      (actionTables (t .acts .setters) (t .acts .vars) (t .acts .pres) (t .acts .posts) (t .acts .places) (set (t .acts .manys) (p .actions - 1) (p .many + 1)))
+      (t .starts) (t .goals))
+      (record { study = with (d .study) (condition v q); last = 3 })
+  unfolding with
+  condition-entered v q good low high some at room is-var is-value = record {
+    sized = omega (arith, length-set (t .acts .manys) (p .actions - 1) (p .many + 1));
+    counts = stands .counts;
+    actions = rw (← same)
+        (action-with-condition (stands .sized) (stands .actions) (p .actions - 1) v q (p .many) (p .at) (omega arith)
+        (stands .counted low high) (stands .next-condition low high) (omega arith) is-var is-value);
+    tasks = stands .tasks;
+    few-tasks = stands .few-tasks;
+    all-tasks = λ h. absurd (omega arith);
+    last = refl;
+    own = stands .own ∙ sym (ap (λ a. a .var) last);
+    above = λ z. rw (last, above-more (lastAction (d .study) .conditions) (record { var = v; value = q }) z, add-one);
+    seed = stands .seed;
+    next-condition = λ h g. omega (arith, stands .next-condition low high);
+    counted = λ h g. getD-set-same (t .acts .manys) (p .actions - 1) (p .many + 1) 0 (omega arith);
+  }
+    where
+      same : p .actions - 1 ≡ length (d .study .actions) - 1
+      same = omega arith
+
+      last : lastAction (with (d .study) (condition v q)) ≡ withCondition (lastAction (d .study)) v q
+      last = last-set (d .study .actions) (withCondition (lastAction (d .study)) v q) noAction (omega arith)
+
+  pub task-entered :
+      (v x y : ℕ)
+      → fault (d .study) (task v x y) ≡ 0
+      → p .tasks < p .vars
+      → Stands file (afterTask p next) (tables (t .counts) (t .acts) (set (t .starts) v x) (set (t .goals) v y)) (record { study = with (d .study) (task v x y); last = 4 })
+  unfolding with
+  task-entered v x y good left = record {
+    sized = omega (arith, length-set (t .starts) v x, length-set (t .goals) v y);
+    counts = stands .counts;
+    actions = stands .actions;
+    tasks = record {
+      count = omega (arith, length-more old new);
+      start = rw here (table-more old new noTask (λ a. a .start) (t .starts) (p .tasks) (stands .tasks .count) (omega arith) (stands .tasks .start));
+      goal = rw here (table-more old new noTask (λ a. a .goal) (t .goals) (p .tasks) (stands .tasks .count) (omega arith) (stands .tasks .goal));
+    };
+    few-tasks = omega arith;
+    all-tasks = λ h. absurd (omega arith);
+    last = refl;
+    own = stands .own;
+    above = stands .above;
+    seed = stands .seed;
+    next-condition = λ h g. absurd (omega arith);
+    counted = λ h g. absurd (omega arith);
+  }
+    where
+      here : v ≡ p .tasks
+      here = omega (arith, faultless (d .study) (task v x y) good .0)
+
+      old : List Task
+      old = d .study .tasks
+
+      new : Task
+      new = record { start = x; goal = y }
+
+  pub seed-entered :
+      (n : ℕ)
+      → fault (d .study) (seed n) ≡ 0
+      → p .vars ≤ p .tasks
+      → Stands file (afterSeed p n next) t (record { study = with (d .study) (seed n); last = 5 })
+  unfolding with
+  seed-entered n good all = record {
+    sized = stands .sized;
+    counts = stands .counts;
+    actions = stands .actions;
+    tasks = stands .tasks;
+    few-tasks = stands .few-tasks;
+    all-tasks = λ h. all;
+    last = refl;
+    own = stands .own;
+    above = stands .above;
+    seed = refl;
+    next-condition = λ h g. absurd (omega arith);
+    counted = λ h g. absurd (omega arith);
+  }

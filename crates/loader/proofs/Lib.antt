@@ -1,0 +1,10 @@
+pub mod Told
+pub mod Grows
+pub mod Actions
+pub mod Conditions
+pub mod Entered
+pub mod Kept
+pub mod Arms
+pub mod Tests
+pub mod Bounds
+pub mod Pass

@@ -1,0 +1,75 @@
+-- `loader::pace::step` meets its contract: a record that is there and may come is taken, any other is refused.
+-- Assumes nothing.
+use mathlib.Core.Path.{_≡_, sym, _∙_}
+use denote.Ref.{now}
+use borrow.Author.Needs.{needs}
+use Rattle.records.specs.Records.{recordAt}
+use Rattle.records.specs.declared.Found.the-variants.{There}
+use Rattle.loader.specs.Tables.{Tables, tables, actionTables}
+use Rattle.loader.proofs.Tests.{not-taken, not-left}
+use Rattle.study.proofs.Verdicts.{verdict-not-allowed}
+use Rattle.loader.proofs.Arms.{allowed-is, not-there-arm}
+use Rattle.loader.proofs.pace.step.Statement.{statement}
+use Rattle.loader.proofs.pace.step.Tie as tie
+use Rattle.loader.proofs.pace.step.Reads as reads
+use Rattle.loader.proofs.pace.step.Lts as lts
+use Rattle.loader.proofs.order.may_follow.Reads as may-follow-reads
+use Rattle.loader.proofs.pace.not_there.Reads as not-there-reads
+use Rattle.loader.proofs.pace.take.Reads as take-reads
+use Rattle.records.proofs.record_at.Reads as record-at-reads
+
+abbrev held : tie.Start → Tables
+held s =
+    tables (now (s .args .counts))
+    (actionTables (now (s .args .setters)) (now (s .args .vars)) (now (s .args .pres)) (now (s .args .posts)) (now (s .args .places)) (now (s .args .manys)))
+    (now (s .args .starts)) (now (s .args .goals))
+
+is-there :
+    (c : tie.After-found)
+    → recordAt (now (c .before .before .before .before .args .file)) (c .before .before .before .before .args .p .at)
+    ≡ There (c .found .given .0 .0) (c .found .given .0 .1 .0) (c .found .given .0 .1 .1 .0)
+is-there c = sym (c .before .before .record-at .ensures) ∙ c .found .given .1
+
+record-at-requires : tie.Need-record-at-requires
+record-at-requires c κs = search needs
+
+enum-known-found : tie.Need-enum-known-found
+enum-known-found c = search needs
+
+not-there-requires : tie.Need-not-there-requires
+not-there-requires c κs = search needs
+
+returns : tie.Need-returns
+returns c =
+    let s = c .before .before .before .before in
+    rw (c .not-there .ensures) (not-there-arm (now (s .args .file)) (s .args .p) (held s) _ (sym (c .before .before .record-at .ensures)) (c .before .match .keys2))
+
+may-follow-requires : tie.Need-may-follow-requires
+may-follow-requires c κs = search needs
+
+returns-2 : tie.Need-returns-2
+returns-2 c =
+    let f = c .before .before .before .before in
+    (tt, λ d s. verdict-not-allowed _ _ d (is-there f) (allowed-is s _ ∙ not-taken (c .before .may-follow .ensures) (c .if1 .taken)))
+
+take-requires : tie.Need-take-requires
+take-requires c κs =
+    let e = c .before .before .before .before .before .before .before .before .before in
+    let f = e .before .before .before .before in
+    (f .before .before .before .before .pre, (is-there f, not-left (e .before .may-follow .ensures) (e .if1 .left)))
+
+returns-3 : tie.Need-returns-3
+returns-3 c = search needs
+
+pub step-spec : {M : Type 1} → statement M
+step-spec =
+    tie.close
+    (tie.spec
+    record-at-requires
+    enum-known-found
+    not-there-requires
+    returns
+    may-follow-requires
+    returns-2
+    take-requires
+    returns-3)

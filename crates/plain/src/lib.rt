@@ -1,0 +1,1 @@
+// Plain mathematics that every crate's definitions share: no code.

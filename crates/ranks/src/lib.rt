@@ -1,0 +1,1 @@
+// No code: the mathematics of rank lists is in specs/ and proofs/.

@@ -1,0 +1,173 @@
+-- What a file says: a study, or the refusal 1 to 8 with its place. Records are read one by one, and each is tested in the order 2, 3, 1, 4, 5, 6, 7.
+-- Assumes nothing.
+use Prim.Native.Nat.{ℕ, zero, suc, _+_, _-_, _*_}
+use mathlib.Core.Bool.{Bool, true, false, not, _&&_, _||_}
+use mathlib.Core.List.{List, [], _∷_, _++_}
+use lib.Dec.{leb, ltb, eqb}
+use lib.ListN.{length, getD, set}
+use Rattle.plain.specs.Choose.{pick}
+use Rattle.records.specs.Records.{recordAt, numberOf}
+use Rattle.records.specs.declared.Found.{Found}
+use Rattle.records.specs.declared.Found.the-variants.{There, Unknown, Cut, Ended}
+use Rattle.study.specs.Study.{Condition, Action, Task, Study, noAction, actionAt}
+
+-- what a file says
+pub data Said : Type 0 where
+  says : Study → Said
+  refused : ℕ → ℕ → Said
+
+-- a record by its kind, with the numbers of its body
+pub data Record : Type 0 where
+  variable : ℕ → Record
+  action : ℕ → ℕ → ℕ → Record
+  condition : ℕ → ℕ → Record
+  task : ℕ → ℕ → ℕ → Record
+  seed : ℕ → Record
+  end : Record
+
+-- the record of a known kind, from the bytes of its body
+unfoldable pub decoded : ℕ → ℕ → ℕ → ℕ → ℕ → Record
+decoded kind a b c d =
+    pick (eqb kind 1) (variable a)
+    (pick (eqb kind 2) (action a b c)
+    (pick (eqb kind 3) (condition a b)
+    (pick (eqb kind 4) (task a b c)
+    (pick (eqb kind 5) (seed (((a * 256 + b) * 256 + c) * 256 + d)) end))))
+
+abbrev pub recordFrom : List ℕ → ℕ → ℕ → Record
+recordFrom file start kind = decoded kind (getD file start 0) (getD file (start + 1) 0) (getD file (start + 2) 0) (getD file (start + 3) 0)
+
+-- what has been read so far, and the kind of the last record, 0 before the first
+pub record Draft : Type 0 where
+  pub study : Study
+  pub last : ℕ
+
+abbrev pub blank : Draft
+blank = record { study = record { counts = []; actions = []; tasks = []; seed = 0 }; last = 0 }
+
+-- a variable still lacks its task
+abbrev pub tasksLeft : Study → Bool
+tasksLeft s = ltb (length (s .tasks)) (length (s .counts))
+
+-- which kind may follow which: variables; actions, each with its conditions; tasks; the seed; the end
+unfoldable pub mayFollow : Bool → ℕ → ℕ → Bool
+mayFollow left last kind =
+    pick (eqb kind 1) (leb last 1)
+    (pick (eqb kind 2) (leb 1 last && leb last 3)
+    (pick (eqb kind 3) (leb 2 last && leb last 3)
+    (pick (eqb kind 4) (leb 1 last && (leb last 4 && left))
+    (pick (eqb kind 5) (eqb last 4 && not left)
+    (eqb last 5)))))
+
+abbrev pub allowed : Draft → ℕ → Bool
+allowed d kind = mayFollow (tasksLeft (d .study)) (d .last) kind
+
+-- there is such a variable, and the value is one of its values
+abbrev pub inRange : Study → ℕ → ℕ → Bool
+inRange s v q = ltb v (length (s .counts)) && ltb q (getD (s .counts) v 0)
+
+-- some action of the list sets the variable to the value
+unfoldable pub sets : List Action → ℕ → ℕ → Bool
+sets [] v q = false
+sets (a ∷ rest) v q = (eqb (a .var) v && eqb (a .post) q) || sets rest v q
+
+-- the last action, whose conditions are being read
+abbrev pub lastAction : Study → Action
+lastAction s = actionAt (s .actions) (length (s .actions) - 1)
+
+-- the variable is above that of the previous condition, if there is one
+unfoldable pub above : List Condition → ℕ → Bool
+above [] v = true
+above (c ∷ []) v = ltb (c .var) v
+above (c ∷ (d ∷ rest)) v = above (d ∷ rest) v
+
+-- the first of 4, 5, 6, 7 that a record earns, or 0
+unfoldable pub fault : Study → Record → ℕ
+fault s (variable n) = pick (leb 32 (length (s .counts))) 4 (pick (leb 2 n && leb n 16) 0 5)
+fault s (action v p q) =
+    pick (leb 256 (length (s .actions))) 4
+    (pick (not (inRange s v p && inRange s v q)) 5
+    (pick (eqb p q) 6
+    (pick (sets (s .actions) v q) 7 0)))
+fault s (condition v q) =
+    pick (not (inRange s v q)) 5
+    (pick (eqb v (lastAction s .var)) 6
+    (pick (above (lastAction s .conditions) v) 0 6))
+fault s (task v p q) = pick (eqb v (length (s .tasks)) && (inRange s v p && inRange s v q)) 0 5
+fault s (seed n) = pick (leb 1 n && leb n 2147483646) 0 5
+fault s end = 0
+
+-- an action with one condition more
+abbrev pub withCondition : Action → ℕ → ℕ → Action
+withCondition a v q =
+    record {
+      var = a .var;
+      pre = a .pre;
+      post = a .post;
+      conditions = a .conditions ++ (record { var = v; value = q } ∷ []);
+    }
+
+-- the study with one record more
+unfoldable pub with : Study → Record → Study
+with s (variable n) = record { counts = s .counts ++ (n ∷ []); actions = s .actions; tasks = s .tasks; seed = s .seed }
+with s (action v p q) =
+    record {
+      counts = s .counts;
+      actions = s .actions ++ (record { var = v; pre = p; post = q; conditions = [] } ∷ []);
+      tasks = s .tasks;
+      seed = s .seed;
+    }
+with s (condition v q) =
+    record {
+      counts = s .counts;
+      actions = set (s .actions) (length (s .actions) - 1) (withCondition (lastAction s) v q);
+      tasks = s .tasks;
+      seed = s .seed;
+    }
+with s (task v p q) = record { counts = s .counts; actions = s .actions; tasks = s .tasks ++ (record { start = p; goal = q } ∷ []); seed = s .seed }
+with s (seed n) = record { counts = s .counts; actions = s .actions; tasks = s .tasks; seed = n }
+with s end = s
+
+-- after a record: what the file says, or the place to read on from with what has been read
+pub data Verdict : Type 0 where
+  settled : Said → Verdict
+  onward : ℕ → Draft → Verdict
+
+-- a record that is there, allowed and without fault
+unfoldable pub taken : List ℕ → Draft → ℕ → ℕ → Record → Verdict
+taken file d kind next (variable n) = onward next (record { study = with (d .study) (variable n); last = kind })
+taken file d kind next (action v p q) = onward next (record { study = with (d .study) (action v p q); last = kind })
+taken file d kind next (condition v q) = onward next (record { study = with (d .study) (condition v q); last = kind })
+taken file d kind next (task v p q) = onward next (record { study = with (d .study) (task v p q); last = kind })
+taken file d kind next (seed n) = onward next (record { study = with (d .study) (seed n); last = kind })
+taken file d kind next end = settled (pick (ltb next (length file)) (refused 8 next) (says (d .study)))
+
+-- refused with a number at a place, unless the number is 0
+unfoldable pub unless : ℕ → ℕ → Verdict → Verdict
+unless zero at v = v
+unless (suc n) at v = settled (refused (suc n) at)
+
+unfoldable pub judged : List ℕ → ℕ → Draft → Found → Verdict
+judged file at d (There kind start next) =
+    pick (allowed d kind)
+    (unless (fault (d .study) (recordFrom file start kind)) at (taken file d kind next (recordFrom file start kind)))
+    (settled (refused 3 at))
+judged file at d (Cut kind place) = settled (refused (pick (allowed d kind) 1 3) place)
+judged file at d (Unknown place) = settled (refused (numberOf (Unknown place)) place)
+judged file at d (Ended place) = settled (refused (numberOf (Ended place)) place)
+
+unfoldable pub verdictAt : List ℕ → ℕ → Draft → Verdict
+verdictAt file at d = judged file at d (recordAt file at)
+
+abbrev pub follow : Verdict → (ℕ → Draft → Said) → Said
+follow (settled s) read = s
+follow (onward at d) read = read at d
+
+-- read on from a place; each record takes a byte at least, so as many records as the file has bytes, and one look more, are enough
+unfoldable pub readOn : ℕ → List ℕ → ℕ → Draft → Said
+readOn zero file at d = refused 1 (length file)
+readOn (suc n) file at d = follow (verdictAt file at d) (readOn n file)
+
+-- what a file says
+unfoldable pub reading : List ℕ → Said
+reading file = readOn (length file + 1) file 0 blank

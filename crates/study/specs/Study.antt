@@ -1,0 +1,45 @@
+-- A study: its variables, actions, tasks and seed, as document 01 names them.
+-- Assumes nothing.
+use Prim.Native.Nat.{ℕ}
+use mathlib.Core.List.{List, []}
+use lib.ListN.{length, getD}
+
+pub record Condition : Type 0 where
+  pub var : ℕ
+  pub value : ℕ
+
+pub record Action : Type 0 where
+  pub var : ℕ
+  pub pre : ℕ
+  pub post : ℕ
+  pub conditions : List Condition
+
+pub record Task : Type 0 where
+  pub start : ℕ
+  pub goal : ℕ
+
+-- `counts` says how many values each variable has; task v is that of variable v
+pub record Study : Type 0 where
+  pub counts : List ℕ
+  pub actions : List Action
+  pub tasks : List Task
+  pub seed : ℕ
+
+-- what stands past the end of a list of actions
+abbrev pub noAction : Action
+noAction = record { var = 0; pre = 0; post = 0; conditions = [] }
+
+abbrev pub noTask : Task
+noTask = record { start = 0; goal = 0 }
+
+abbrev pub noCondition : Condition
+noCondition = record { var = 0; value = 0 }
+
+abbrev pub actionAt : List Action → ℕ → Action
+actionAt actions i = getD actions i noAction
+
+abbrev pub taskAt : List Task → ℕ → Task
+taskAt tasks v = getD tasks v noTask
+
+abbrev pub conditionAt : List Condition → ℕ → Condition
+conditionAt conditions k = getD conditions k noCondition

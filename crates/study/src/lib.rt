@@ -1,0 +1,1 @@
+// What a study file says: definitions and their laws, no code.
