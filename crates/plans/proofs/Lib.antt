@@ -1,0 +1,4 @@
+pub mod States
+pub mod Running
+pub mod Again
+pub mod Straight

@@ -1,0 +1,8 @@
+pub mod Joined
+pub mod Leads
+pub mod Unique
+pub mod Wanted
+pub mod Steps
+pub mod Ordered
+pub mod Along
+pub mod Straight
