@@ -8,3 +8,4 @@ pub mod Arms
 pub mod Tests
 pub mod Bounds
 pub mod Pass
+pub mod Fresh

@@ -45,7 +45,7 @@ pub record StraightFrom (t : Study) (past : List State) (s : State) (list : List
   pub goal : Reached t end
   pub none-again : NoneAgain t past s list
 
-kept-first : (t : Study) → Kept t None (startState t) []
+pub kept-first : (t : Study) → Kept t None (startState t) []
 kept-first t = record {
   long = start-length t;
   closed = λ y z h. absurd h;
@@ -89,7 +89,7 @@ module _ {t : Study} {taken : ℕ → Type 0} {s : State} {past : List State} (k
       let f : j ≡ own-stands .place = omega (arith, own-not-early j b e, own-not-late j e) in
       (omega arith, rw (← f) e)
 
-  own-value : valueOf s (varOf t x) ≡ preOf t x
+  pub own-value : valueOf s (varOf t x) ≡ preOf t x
   own-value = own-stands .value ∙ sym (reached-left own-walk (own-stands .place) (own-next .0)) ∙ ap (preOf t) (own-next .1)
 
   -- a wanted value that is on the walk is reached now: what sets it is taken, and what leaves it is not
@@ -121,7 +121,7 @@ module _ {t : Study} {taken : ℕ → Type 0} {s : State} {past : List State} (k
           lawful .a-task-each,
         )
 
-    wanted-met : Met t → (v q : ℕ) → Wants (conditionsOf t x) v q → valueOf s v ≡ q
+    pub wanted-met : Met t → (v q : ℕ) → Wants (conditionsOf t x) v q → valueOf s v ≡ q
     wanted-met met v q h =
         let on = met x (ready .is-member) v q h in
         let there = wanted-there v q h in
@@ -204,7 +204,7 @@ module _ {t : Study} (lawful : Lawful t) {taken : ℕ → Type 0} {s : State} {p
           free (inl (lawful .post-unique y x (on-walk-usable on) (on-walk-usable (ready .is-member)) f
           (sym e ∙ ap (valueOf (stepped t s x)) f ∙ after-own s (actionAt (t .actions) x) own-there)))
 
-  kept-next : Kept t (Plus x taken) (stepped t s x) (s ∷ past)
+  pub kept-next : Kept t (Plus x taken) (stepped t s x) (s ∷ past)
   kept-next = record {
     long = after-length s (actionAt (t .actions) x) ∙ kept .long;
     closed = kept-closed;

@@ -1,7 +1,7 @@
 -- `checker::check` meets its contract: its tables are as long as their types say, so what is loaded is what the file says.
 -- Assumes nothing.
-use mathlib.Core.Path.{refl}
 use borrow.Author.Needs.{needs}
+use Rattle.loader.proofs.Fresh.{fresh-sized}
 use Rattle.checker.proofs.check.Statement.{statement}
 use Rattle.checker.proofs.check.Tie as tie
 
@@ -20,15 +20,13 @@ cast-t28 c = search needs
 returns : tie.Need-returns
 returns c =
     let l = rw (c .before .loaded .given .1) at
-    (c .before .before .before .load .ensures
-    (record { counts = refl; setters = refl; vars = refl; pres = refl; posts = refl; places = refl; manys = refl; starts = refl; goals = refl })) in
+    (c .before .before .before .load .ensures fresh-sized) in
     rw (l .1, l .2 .actions .count, l .2 .counts .count)
 
 returns-2 : tie.Need-returns-2
 returns-2 c =
     let l = rw (c .before .loaded2 .given .1) at
-    (c .before .before .before .load .ensures
-    (record { counts = refl; setters = refl; vars = refl; pres = refl; posts = refl; places = refl; manys = refl; starts = refl; goals = refl })) in
+    (c .before .before .before .load .ensures fresh-sized) in
     rw l
 
 pub check-spec : {M : Type 1} → statement M

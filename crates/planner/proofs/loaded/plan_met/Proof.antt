@@ -1,0 +1,64 @@
+-- `planner::loaded::plan_met` meets its contract: what was taken greedily is all, and the first plan, or fewer, and there is a ring.
+-- Assumes nothing.
+use mathlib.Core.Path.{_≡_, _∙_}
+use Prim.Native.Nat.{ℕ}
+use native.Mathlib.Omega.{arith}
+use Rattle.planner.proofs.Outcomes.{fewer-is-ring, too-long, fits, few-in-all}
+use borrow.Author.Needs.{needs}
+use Rattle.planner.proofs.loaded.plan_met.Statement.{statement}
+use Rattle.planner.proofs.loaded.plan_met.Tie as tie
+use Rattle.planner.proofs.loaded.plan_met.Reads as reads
+use Rattle.planner.proofs.loaded.plan_met.Lts as lts
+use Rattle.planner.proofs.loaded.copy_out.Reads as copy-out-reads
+use Rattle.planner.proofs.loaded.refusal.Reads as refusal-reads
+use Rattle.planner.proofs.taking.take_all.Reads as take-all-reads
+
+take-all-requires : tie.Need-take-all-requires
+take-all-requires c κs = search needs
+
+refusal-requires : tie.Need-refusal-requires
+refusal-requires c κs = search needs
+
+returns : tie.Need-returns
+returns c t prepared ranked =
+    let taken = c .before .before .take-all .ensures in
+    rw (c .refusal .ensures) (fewer-is-ring prepared _ ranked _ (taken .0 .1) _ (taken .0 .0) (taken .1 t prepared) _ (c .before .if1 .taken))
+
+refusal-requires-2 : tie.Need-refusal-requires-2
+refusal-requires-2 c κs = search needs
+
+returns-2 : tie.Need-returns-2
+returns-2 c t prepared ranked =
+    let taken = c .before .before .before .take-all .ensures in
+    rw (c .refusal2 .ensures) (too-long prepared _ ranked _ (taken .0 .1) _ (taken .0 .0) (taken .1 t prepared) (c .before .before .if1 .left) _ (c .before .if2 .taken))
+
+copy-out-requires : tie.Need-copy-out-requires
+copy-out-requires c κs =
+    let s = c .before .before .before .before .before .before .before .before .before .before .before in
+    (few-in-all (s .pre .2 .1), omega arith, c .before .before .before .before .take-all .ensures .0 .1)
+
+refusal-requires-3 : tie.Need-refusal-requires-3
+refusal-requires-3 c κs = search needs
+
+same-length : tie.Need-same-length
+same-length c = search needs
+
+returns-3 : tie.Need-returns-3
+returns-3 c t prepared ranked =
+    let taken = c .before .before .before .before .before .before .before .before .take-all .ensures in
+    rw (c .refusal3 .ensures, c .before .before .before .copy-out .ensures)
+    (fits prepared _ ranked _ (taken .0 .1) _ (taken .0 .0) (taken .1 t prepared) (omega arith) _ (omega arith))
+
+pub plan-met-spec : {M : Type 1} → statement M
+plan-met-spec =
+    tie.close
+    (tie.spec
+    take-all-requires
+    refusal-requires
+    returns
+    refusal-requires-2
+    returns-2
+    copy-out-requires
+    refusal-requires-3
+    same-length
+    returns-3)

@@ -1,0 +1,74 @@
+-- `planner::loaded::plan_walked` meets its contract: a condition off its walk is refusal 11, else planning goes on.
+-- Assumes nothing.
+use mathlib.Core.Path.{_≡_, refl}
+use mathlib.Core.List.{List}
+use Prim.Native.Nat.{ℕ}
+use lib.ListN.{length}
+use Rattle.study.specs.Study.{Study}
+use Rattle.planning.specs.Planning.{off-walk}
+use Rattle.planner.specs.Rows.{Rowed}
+use Rattle.planner.specs.Whole.{Walking}
+use Rattle.planner.proofs.Outcomes.{rowed-walks}
+use Rattle.planner.proofs.Stages.{all-zeros, walking-ranked, walking-prepared, walking-rowed}
+use borrow.Author.Needs.{needs}
+use Rattle.planner.proofs.loaded.plan_walked.Statement.{statement}
+use Rattle.planner.proofs.loaded.plan_walked.Tie as tie
+use Rattle.planner.proofs.loaded.plan_walked.Reads as reads
+use Rattle.planner.proofs.loaded.plan_walked.Lts as lts
+use Rattle.planner.proofs.loaded.plan_met.Reads as plan-met-reads
+use Rattle.planner.proofs.loaded.refusal.Reads as refusal-reads
+use Rattle.planner.proofs.tracing.wide.Reads as wide-reads
+use Rattle.planner.proofs.wanting.want_all.Reads as want-all-reads
+
+want-all-requires : tie.Need-want-all-requires
+want-all-requires c κs =
+    let (t, walking) = c .before .before .before .before .pre .1 in
+    (refl, all-zeros 512, (t, walking .wishes))
+
+enum-known-met : tie.Need-enum-known-met
+enum-known-met c = search needs
+
+wide-requires : tie.Need-wide-requires
+wide-requires c κs = search needs
+
+refusal-requires : tie.Need-refusal-requires
+refusal-requires c κs = search needs
+
+enum-told : tie.Need-enum-told
+enum-told c = search needs
+
+plan-met-requires : tie.Need-plan-met-requires
+plan-met-requires c κs =
+    let s = c .before .before .before .before .before .before .before .before .before .before in
+    let (t, walking) = s .pre .1 in
+    let wanted = c .before .before .before .before .before .want-all .ensures in
+    let (met, counts) = rw (c .before .before .before .enum-told .given .1) at (wanted .1 t (walking .wishes) (walking-rowed walking)) in
+    (wanted .0, s .pre .0, (t, walking-prepared walking _ met counts))
+
+returns : tie.Need-returns
+returns c t walking =
+    let off = rw (c .before .before .before .met .given .1) at (c .before .before .before .before .before .want-all .ensures .1 t (walking .wishes) (walking-rowed walking)) in
+    rw (c .refusal .ensures, c .before .wide .ensures .0)
+    (off-walk (walking-ranked walking) (rowed-walks (walking .variables) (walking .rowed)) off)
+
+same-length : tie.Need-same-length
+same-length c = search needs
+
+returns-2 : tie.Need-returns-2
+returns-2 c t walking =
+    let (met, counts) = rw (c .before .before .before .before .before .before .enum-told .given .1) at (c .before .before .before .before .before .before .before .before .want-all .ensures .1 t (walking .wishes) (walking-rowed walking)) in
+    c .before .before .plan-met .ensures t (walking-prepared walking _ met counts) (walking-ranked walking)
+
+pub plan-walked-spec : {M : Type 1} → statement M
+plan-walked-spec =
+    tie.close
+    (tie.spec
+    want-all-requires
+    enum-known-met
+    wide-requires
+    refusal-requires
+    enum-told
+    plan-met-requires
+    returns
+    same-length
+    returns-2)

@@ -1,0 +1,80 @@
+-- `planner::plan` meets its contract: what is loaded is what the file says, and its tables are given to planning.
+-- Assumes nothing.
+use mathlib.Core.Path.{_≡_, refl, sym, ap, _∙_}
+use Prim.Native.Nat.{ℕ}
+use Rattle.loader.proofs.Fresh.{fresh-sized}
+use Rattle.planner.specs.Whole.{notLoaded}
+use Rattle.planner.proofs.Stages.{loaded-known, known-given, not-ranked}
+use borrow.Author.Needs.{needs}
+use Rattle.planner.proofs.plan.Statement.{statement}
+use Rattle.planner.proofs.plan.Tie as tie
+use Rattle.planner.proofs.plan.Reads as reads
+use Rattle.planner.proofs.plan.Lts as lts
+use Rattle.loader.proofs.load.Reads as load-reads
+use Rattle.planner.proofs.loaded.plan_loaded.Reads as plan-loaded-reads
+use Rattle.planner.proofs.loaded.refused.Reads as refused-reads
+use Rattle.planner.proofs.loaded.unranked.Reads as unranked-reads
+use Rattle.ranking.proofs.test.Reads as test-reads
+
+load-requires : tie.Need-load-requires
+load-requires c κs = search needs
+
+enum-known-found : tie.Need-enum-known-found
+enum-known-found c = search needs
+
+enum-told : tie.Need-enum-told
+enum-told c = search needs
+
+refused-requires : tie.Need-refused-requires
+refused-requires c κs = search needs
+
+returns : tie.Need-returns
+returns c =
+    let e = c .before .enum-told .given .1 in
+    let said = rw e at (c .before .before .before .load .ensures fresh-sized) in
+    rw said (c .refused .ensures ∙ ap notLoaded e, refl)
+
+test-requires : tie.Need-test-requires
+test-requires c κs = search needs
+
+enum-told-2 : tie.Need-enum-told-2
+enum-told-2 c = search needs
+
+unranked-requires : tie.Need-unranked-requires
+unranked-requires c κs = search needs
+
+returns-2 : tie.Need-returns-2
+returns-2 c =
+    let (t, said, holds) = rw (c .before .before .before .before .found .given .1) at (c .before .before .before .before .before .before .load .ensures fresh-sized) in
+    rw (said, c .unranked .ensures)
+    (not-ranked (c .before .before .test .result) (rw (← holds .actions .count) (sym (c .before .before .test .ensures))) (c .before .match2 .keys2))
+
+plan-loaded-requires : tie.Need-plan-loaded-requires
+plan-loaded-requires c κs =
+    let (t, said, holds) = rw (c .before .before .before .before .before .before .before .before .before .before .before .before .before .found .given .1) at (c .before .before .before .before .before .before .before .before .before .before .before .before .before .before .before .load .ensures fresh-sized) in
+    (holds .sized .starts, (t, known-given _ (loaded-known said holds) (sym (c .before .before .before .before .before .before .before .before .before .before .before .test .ensures) ∙ c .before .before .before .before .before .before .before .before .before .enum-told2 .given .1)))
+
+same-length : tie.Need-same-length
+same-length c = search needs
+
+returns-3 : tie.Need-returns-3
+returns-3 c =
+    let (t, said, holds) = rw (c .before .before .before .before .before .before .before .before .before .before .before .before .before .before .before .before .found .given .1) at (c .before .before .before .before .before .before .before .before .before .before .before .before .before .before .before .before .before .before .load .ensures fresh-sized) in
+    rw said (c .before .before .plan-loaded .ensures t (known-given _ (loaded-known said holds) (sym (c .before .before .before .before .before .before .before .before .before .before .before .before .before .before .test .ensures) ∙ c .before .before .before .before .before .before .before .before .before .before .before .before .enum-told2 .given .1)))
+
+pub plan-spec : {M : Type 1} → statement M
+plan-spec =
+    tie.close
+    (tie.spec
+    load-requires
+    enum-known-found
+    enum-told
+    refused-requires
+    returns
+    test-requires
+    enum-told-2
+    unranked-requires
+    returns-2
+    plan-loaded-requires
+    same-length
+    returns-3)

@@ -1,0 +1,59 @@
+-- `planner::plan_seeded` meets its contract: what is loaded is what the file says, and its tables and seed are given to planning.
+-- Assumes nothing.
+use mathlib.Core.Path.{_≡_, refl, ap, _∙_}
+use Rattle.loader.proofs.Fresh.{fresh-sized}
+use Rattle.planner.specs.Whole.{notLoaded}
+use Rattle.planner.proofs.Drawing.{seeded-plans}
+use Rattle.planner.proofs.Stages.{loaded-known}
+use borrow.Author.Needs.{needs}
+use Rattle.planner.proofs.plan_seeded.Statement.{statement}
+use Rattle.planner.proofs.plan_seeded.Tie as tie
+use Rattle.planner.proofs.plan_seeded.Reads as reads
+use Rattle.planner.proofs.plan_seeded.Lts as lts
+use Rattle.loader.proofs.load.Reads as load-reads
+use Rattle.planner.proofs.loaded.plan_drawn.Reads as plan-drawn-reads
+use Rattle.planner.proofs.loaded.refused.Reads as refused-reads
+
+load-requires : tie.Need-load-requires
+load-requires c κs = search needs
+
+enum-known-found : tie.Need-enum-known-found
+enum-known-found c = search needs
+
+enum-told : tie.Need-enum-told
+enum-told c = search needs
+
+refused-requires : tie.Need-refused-requires
+refused-requires c κs = search needs
+
+returns : tie.Need-returns
+returns c =
+    let e = c .before .enum-told .given .1 in
+    let said = rw e at (c .before .before .before .load .ensures fresh-sized) in
+    rw said (c .refused .ensures ∙ ap notLoaded e, refl)
+
+plan-drawn-requires : tie.Need-plan-drawn-requires
+plan-drawn-requires c κs =
+    let (t, said, holds) = rw (c .before .before .before .before .before .before .before .before .before .before .found .given .1) at (c .before .before .before .before .before .before .before .before .before .before .before .before .load .ensures fresh-sized) in
+    (holds .sized .starts, (t, loaded-known said holds))
+
+same-length : tie.Need-same-length
+same-length c = search needs
+
+returns-2 : tie.Need-returns-2
+returns-2 c =
+    let (t, said, holds) = rw (c .before .before .before .before .before .before .before .before .before .before .before .before .before .found .given .1) at (c .before .before .before .before .before .before .before .before .before .before .before .before .before .before .before .load .ensures fresh-sized) in
+    seeded-plans _ said (holds .seed) (holds .actions .count) (c .before .before .plan-drawn .ensures t (loaded-known said holds))
+
+pub plan-seeded-spec : {M : Type 1} → statement M
+plan-seeded-spec =
+    tie.close
+    (tie.spec
+    load-requires
+    enum-known-found
+    enum-told
+    refused-requires
+    returns
+    plan-drawn-requires
+    same-length
+    returns-2)

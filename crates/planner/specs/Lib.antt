@@ -1,0 +1,6 @@
+pub mod Facts
+pub mod Rows
+pub mod Wanting
+pub mod Taking
+pub mod Whole
+pub mod Seeded

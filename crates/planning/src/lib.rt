@@ -1,0 +1,1 @@
+// What planning answers, and the theorems about it: definitions and their laws, no code.
