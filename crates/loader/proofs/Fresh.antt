@@ -6,9 +6,9 @@ use lib.ListN.{replicate}
 use Rattle.loader.specs.Tables.{Sized, tables, actionTables}
 
 pub fresh-sized :
-  Sized
-  (tables (replicate {A = ℕ} 32 0)
-  (actionTables (replicate 512 0) (replicate 256 0) (replicate 256 0) (replicate 256 0) (replicate 256 0) (replicate 256 0))
-  (replicate 32 0) (replicate 32 0))
+    Sized
+    (tables (replicate {A = ℕ} 32 0)
+    (actionTables (replicate 512 0) (replicate 256 0) (replicate 256 0) (replicate 256 0) (replicate 256 0) (replicate 256 0))
+    (replicate 32 0) (replicate 32 0))
 fresh-sized =
     record { counts = refl; setters = refl; vars = refl; pres = refl; posts = refl; places = refl; manys = refl; starts = refl; goals = refl }

@@ -9,13 +9,13 @@ use lib.ListN.{length, getD, take, drop, set}
 use lib.Seq.{take-suc, drop-cons, set-at, append-snoc, length-take-le}
 
 pub copied-one-more :
-  (from to : List ℕ) (k : ℕ) → k < length from → k < length to
-  → set (take k from ++ drop k to) k (getD from k 0) ≡ take (k + 1) from ++ drop (k + 1) to
+    (from to : List ℕ) (k : ℕ) → k < length from → k < length to
+    → set (take k from ++ drop k to) k (getD from k 0) ≡ take (k + 1) from ++ drop (k + 1) to
 copied-one-more from to k h g =
     rw (
       add-one k,
       drop-cons to k 0 g,
       set-at (take k from) (getD to k 0) _ (getD from k 0) k (length-take-le k from (omega arith)),
       take-suc from k 0 h,
-      append-snoc
+      append-snoc,
     )

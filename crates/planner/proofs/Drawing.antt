@@ -23,24 +23,28 @@ pub drawn-fine : (seed a : ℕ) → tested (drawn seed a) a ≡ Fine
 drawn-fine seed a = rank-list-is-fine (drawn-is-rank-list seed a)
 
 module _
-  {file : List ℕ} {n a x : ℕ} {acts : ActionTables} {starts goals : List ℕ} {t : Study}
-  (known : Known file n a x acts starts goals t)
+    {file : List ℕ} {n a x : ℕ} {acts : ActionTables} {starts goals : List ℕ} {t : Study}
+    (known : Known file n a x acts starts goals t)
   where
-  pub drawn-in-front : (ranks : List ℕ) → ranks ≡ drawLeaves x a (replicate 256 0) → take a ranks ≡ drawn x a
-  drawn-in-front ranks e =
-    e-front ∙ take-at (drawn x a) (drop a (replicate 256 0)) a (drawn-is-rank-list x a .an-entry-for-each)
-    where
-      few : a ≤ 256
-      few = known .actions .few
-      e-front : take a ranks ≡ take a (drawn x a ++ drop a (replicate 256 0))
-      e-front =
-        rw (e, not-refused x a 256
-        (omega (arith, known .seed, known .lawful .seed-low)) (omega (arith, known .seed, known .lawful .seed-high)) few few)
+    pub drawn-in-front : (ranks : List ℕ) → ranks ≡ drawLeaves x a (replicate 256 0) → take a ranks ≡ drawn x a
+    drawn-in-front ranks e =
+        e-front ∙ take-at (drawn x a) (drop a (replicate 256 0)) a (drawn-is-rank-list x a .an-entry-for-each)
+      where
+        few : a ≤ 256
+        few = known .actions .few
+
+        e-front : take a ranks ≡ take a (drawn x a ++ drop a (replicate 256 0))
+        e-front =
+            rw (
+              e,
+              not-refused x a 256
+                  (omega (arith, known .seed, known .lawful .seed-low)) (omega (arith, known .seed, known .lawful .seed-high)) few few,
+            )
 
 pub seeded-plans :
-  (file : List ℕ) {t : Study} {x a : ℕ} {before after : List ℕ} {r : Answer}
-  → reading file ≡ says t → x ≡ t .seed → a ≡ length (t .actions)
-  → Plans t (drawn x a) before r after → PlansSeeded (reading file) before r after
+    (file : List ℕ) {t : Study} {x a : ℕ} {before after : List ℕ} {r : Answer}
+    → reading file ≡ says t → x ≡ t .seed → a ≡ length (t .actions)
+    → Plans t (drawn x a) before r after → PlansSeeded (reading file) before r after
 seeded-plans file {t} {x} {a} {before} {after} {r} said seed actions p =
     rw said
     (subst (λ (k : ℕ). Plans t (drawn k (length (t .actions))) before r after) seed

@@ -41,8 +41,8 @@ abbrev pub longer : ℕ → ℕ → ℕ → ℕ → List ℕ → List ℕ
 longer v p q i steps = set (set steps (16 * v + p) (i + 2)) (16 * v + q) 1
 
 module _ {t : Study} (lawful : Lawful t) {v q : ℕ} (i : ℕ) {list steps : List ℕ}
-  (low : v < 32) (small : preOf t i < 16) (small′ : q < 16) (long : length steps ≡ 512)
-  (way : Way t v (preOf t i) list) (way′ : Way t v q (list ++ (i ∷ []))) (row : RowTo t v list (preOf t i) steps) where
+    (low : v < 32) (small : preOf t i < 16) (small′ : q < 16) (long : length steps ≡ 512)
+    (way : Way t v (preOf t i) list) (way′ : Way t v q (list ++ (i ∷ []))) (row : RowTo t v list (preOf t i) steps) where
   -- place by place, the longer list
   old : (k : ℕ) → k < length list → getD (list ++ (i ∷ [])) k 0 ≡ getD list k 0
   old k h = List·getD-append list (i ∷ []) 0 k h

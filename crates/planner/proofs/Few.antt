@@ -42,9 +42,10 @@ module _ (f : ℕ → ℕ) where
   distinct-images :
       (xs : List ℕ) → Distinct xs → ((x y : ℕ) → In x xs → In y xs → f x ≡ f y → x ≡ y) → Distinct (map f xs)
   distinct-images [] d one = tt
-  distinct-images (x ∷ xs) (d, ds) one =
-      (λ h. let (z, (g, e)) = in-images xs (f x) h in d (rw (one x z (inl refl) (inr g) e) g),
-      distinct-images xs ds (λ y z h g. one y z (inr h) (inr g)))
+  distinct-images (x ∷ xs) (d, ds) one = (
+    λ h. let (z, (g, e)) = in-images xs (f x) h in d (rw (one x z (inl refl) (inr g) e) g),
+    distinct-images xs ds (λ y z h g. one y z (inr h) (inr g)),
+  )
 
   -- no more numbers than there are images for them
   pub few-images :
@@ -56,7 +57,7 @@ module _ (f : ℕ → ℕ) where
         length-map xs f,
         numbers-length n,
         distinct-within (map f xs) (numbers n) (distinct-images xs d one)
-        (λ y h. let (x, (g, e)) = in-images xs y h in in-numbers n y (rw e (low x g))),
+            (λ y h. let (x, (g, e)) = in-images xs y h in in-numbers n y (rw e (low x g))),
       )
 
 pub walk-short : {t : Study} → Lawful t → {v : ℕ} {xs : List ℕ} → Walk t v xs → length xs ≤ 16

@@ -29,10 +29,13 @@ listed :
     (file : List ℕ) (at : ℕ) (cs : List Condition) → ((k : ℕ) → k < length cs → Here file (at + 3 * k) (conditionAt cs k))
     → ((j k : ℕ) → j < k → k < length cs → conditionAt cs j .var < conditionAt cs k .var) → Listed file at cs
 listed file at [] here rise = tt
-listed file at (c ∷ rest) here rise =
-    (rw first at (here 0 (omega arith)),
-    (wanted-each (λ u q. c .var < u) rest (λ k h. rise 0 (suc k) (omega arith) (omega arith)),
-    listed file (at + 3) rest (λ k h. rw (next k) (here (suc k) (omega arith))) (λ j k l h. rise (suc j) (suc k) (omega arith) (omega arith))))
+listed file at (c ∷ rest) here rise = (
+  rw first at (here 0 (omega arith)),
+  (
+    wanted-each (λ u q. c .var < u) rest (λ k h. rise 0 (suc k) (omega arith) (omega arith)),
+    listed file (at + 3) rest (λ k h. rw (next k) (here (suc k) (omega arith))) (λ j k l h. rise (suc j) (suc k) (omega arith) (omega arith)),
+  ),
+)
   where
     first : at + 3 * 0 ≡ at
     first = omega arith
@@ -81,9 +84,12 @@ module _ (file : List ℕ) where
       (cs : List Condition) (at : ℕ) (table : List ℕ) → Listed file at cs → length table ≡ 512
       → ((u q : ℕ) → Wants cs u q → 1 ≤ getD table (16 * u + q) 0) → Lowerable file at (length cs) table
   lower-able [] at table l size some = tt
-  lower-able (c ∷ rest) at table (here, (rise, l)) size some =
-      (here .room, omega (arith, entry-is here, here .low, here .narrow), rw (entry-is here) (some (c .var) (c .value) (inl (refl, refl))),
-      lower-able rest (at + 3) (lowered file at table) l (length-set table _ _ ∙ size) (some-still rest here rise table some))
+  lower-able (c ∷ rest) at table (here, (rise, l)) size some = (
+    here .room,
+    omega (arith, entry-is here, here .low, here .narrow),
+    rw (entry-is here) (some (c .var) (c .value) (inl (refl, refl))),
+    lower-able rest (at + 3) (lowered file at table) l (length-set table _ _ ∙ size) (some-still rest here rise table some),
+  )
 
   lower-counts :
       (cs : List Condition) (at : ℕ) (table : List ℕ) → Listed file at cs → length table ≡ 512

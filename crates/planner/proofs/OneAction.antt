@@ -118,10 +118,11 @@ module _
       so-far =
           λ t i stand.
           let w = stands-here stand at k (under .is-at) h in
-          let b = under .so-far t i stand in
-          (below-more (λ m. stepAt (conditionsOf t i) steps m ≢ 0) k (b .0) (rw (same-entry t i stand) at has-step),
-          rw (same-entry t i stand) (raised-next (conditionsOf t i) k table table′ (omega (arith, stand .holds .count)) (under .size)
-          (λ m l. conditions-rise stand m k l h) (w .low) (w .narrow) (b .1)));
+          let b = under .so-far t i stand in (
+            below-more (λ m. stepAt (conditionsOf t i) steps m ≢ 0) k (b .0) (rw (same-entry t i stand) at has-step),
+            rw (same-entry t i stand) (raised-next (conditionsOf t i) k table table′ (omega (arith, stand .holds .count)) (under .size)
+                (λ m l. conditions-rise stand m k l h) (w .low) (w .narrow) (b .1)),
+          );
     }
 
     pub breaks-off :

@@ -61,9 +61,10 @@ module _ {t : Study} {table : List ℕ} {i : ℕ} (p : Passed t table i) where
   }
 
   pub all-passed : i ≡ length (t .actions) → WantsAll t table All
-  all-passed e =
-      (λ j on. p .met j (below on) on,
-      λ list members u q low narrow. p .counts u q low narrow ∙ members-want-same t u q mine members)
+  all-passed e = (
+    λ j on. p .met j (below on) on,
+    λ list members u q low narrow. p .counts u q low narrow ∙ members-want-same t u q mine members,
+  )
     where
       below : {x : ℕ} → OnAWalk t x → x < i
       below on = omega (arith, on-walk-usable on)

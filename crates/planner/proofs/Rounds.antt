@@ -37,7 +37,7 @@ TraceEnsures v s q a setters vars pres posts steps steps′ r =
     × ((t : Study) → Moves a setters vars pres posts t → startOf t v ≡ s → EmptyRow v steps → Traces t v q 16 steps steps′ r)
 
 module _ {n a : ℕ} {setters vars pres posts starts goals steps₀ steps : List ℕ} {total v : ℕ}
-  (under : Underway n a setters vars pres posts starts goals steps₀ steps total v) (low : v < n) (steps′ : List ℕ) where
+    (under : Underway n a setters vars pres posts starts goals steps₀ steps total v) (low : v < n) (steps′ : List ℕ) where
   traced :
       (r : Traced)
       → TraceEnsures v (getD starts v 0) (getD goals v 0) a setters vars pres posts steps steps′ r

@@ -12,7 +12,7 @@ use Rattle.planner.specs.Rows.{SetterIs}
 use Rattle.planner.specs.declared.tracing.Named.the-variants.{Is, Nobody}
 
 module _ {actions : ℕ} {setters vars pres posts : List ℕ} {t : Study} (moves : Moves actions setters vars pres posts t) {v q i : ℕ}
-  (named : i ≡ getD setters (16 * v + q) 0) where
+    (named : i ≡ getD setters (16 * v + q) 0) where
   -- the table names any action that sets the value
   names-it : (j : ℕ) → j < length (t .actions) → varOf t j ≡ v → postOf t j ≡ q → i ≡ j
   names-it j h e f = named ∙ rw (← e, ← f) (moves .names j (omega (arith, moves .actions)))

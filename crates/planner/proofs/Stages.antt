@@ -27,8 +27,8 @@ use Rattle.planner.specs.Whole.{Known, Given, Walking, notRanked}
 
 -- what is loaded is known, and with a rank list it is given
 pub loaded-known :
-  {file : List ℕ} {n a x : ℕ} {tables : Tables} {t : Study}
-  → reading file ≡ says t → Holds file n a x tables t → Known file n a x (tables .acts) (tables .starts) (tables .goals) t
+    {file : List ℕ} {n a x : ℕ} {tables : Tables} {t : Study}
+    → reading file ≡ says t → Holds file n a x tables t → Known file n a x (tables .acts) (tables .starts) (tables .goals) t
 loaded-known {file} {t = t} said holds =
     let lawful = loads-lawful file t said in
     record {
@@ -36,19 +36,19 @@ loaded-known {file} {t = t} said holds =
       variables = holds .counts .count ∙ sym (lawful .a-task-each);
       actions = holds .actions;
       tasks = holds .tasks;
-      seed = holds .seed
+      seed = holds .seed;
     }
 
 pub known-given :
-  {file : List ℕ} (ranks : List ℕ) {n a x : ℕ} {acts : ActionTables} {starts goals : List ℕ} {t : Study}
-  → Known file n a x acts starts goals t → tested ranks a ≡ Fine → Given file ranks n a acts starts goals t
+    {file : List ℕ} (ranks : List ℕ) {n a x : ℕ} {acts : ActionTables} {starts goals : List ℕ} {t : Study}
+    → Known file n a x acts starts goals t → tested ranks a ≡ Fine → Given file ranks n a acts starts goals t
 known-given ranks known ranked =
     record { lawful = known .lawful; variables = known .variables; actions = known .actions; tasks = known .tasks; ranked = ranked }
 
 -- a list that is no rank list is refused by 9
 pub not-ranked :
-  {t : Study} {ranks before : List ℕ} (r : Tested) → tested ranks (length (t .actions)) ≡ r → OneOf (1 ∷ 2 ∷ []) (tagOf the-type r)
-  → Plans t ranks before (notRanked (length ranks) r) before
+    {t : Study} {ranks before : List ℕ} (r : Tested) → tested ranks (length (t .actions)) ≡ r → OneOf (1 ∷ 2 ∷ []) (tagOf the-type r)
+    → Plans t ranks before (notRanked (length ranks) r) before
 not-ranked Fine e h = absurd (neither h)
   where
     neither : OneOf (1 ∷ 2 ∷ []) 0 → ⊥
@@ -58,88 +58,88 @@ not-ranked Length e h = wrong-length e
 not-ranked (Entry k) e h = wrong-entry e
 
 module _
-  {file ranks : List ℕ} {n a : ℕ} {acts : ActionTables} {starts goals : List ℕ} {t : Study}
-  (given : Given file ranks n a acts starts goals t)
+    {file ranks : List ℕ} {n a : ℕ} {acts : ActionTables} {starts goals : List ℕ} {t : Study}
+    (given : Given file ranks n a acts starts goals t)
   where
-  pub given-moves : Moves a (acts .setters) (acts .vars) (acts .pres) (acts .posts) t
-  given-moves =
-    record {
-      lawful = given .lawful;
-      actions = given .actions .count;
-      tells-var = λ i h. given .actions .action i h .var;
-      tells-pre = λ i h. given .actions .action i h .pre;
-      tells-post = λ i h. given .actions .action i h .post;
-      names = λ i h. given .actions .action i h .found
-    }
-
-  pub given-ranked : tested ranks (length (t .actions)) ≡ Fine
-  given-ranked = rw (← given .actions .count) (given .ranked)
-
-  pub given-starts : Tells startOf n starts t
-  given-starts = given .tasks .start
-
-  pub given-goals : Tells goalOf n goals t
-  given-goals = given .tasks .goal
-
-  pub given-walking :
-    (total : ℕ) (steps : List ℕ) → Rowed t n steps → (list : List ℕ) → Members t list → length list ≡ total
-    → Walking file ranks n a total (acts .vars) (acts .pres) (acts .posts) (acts .places) (acts .manys) steps starts t
-  given-walking total steps rowed list members counted =
-    record {
-      wishes =
+    pub given-moves : Moves a (acts .setters) (acts .vars) (acts .pres) (acts .posts) t
+    given-moves =
         record {
           lawful = given .lawful;
           actions = given .actions .count;
           tells-var = λ i h. given .actions .action i h .var;
           tells-pre = λ i h. given .actions .action i h .pre;
-          tells-conditions = λ i h. given .actions .action i h .conditions
-        };
-      deeds =
-        record {
-          lawful = given .lawful;
-          actions = given .actions .count;
-          tells-var = λ i h. given .actions .action i h .var;
           tells-post = λ i h. given .actions .action i h .post;
-          tells-conditions = λ i h. given .actions .action i h .conditions
-        };
-      variables = given .variables;
-      ranked = given .ranked;
-      rowed = rowed;
-      list = list;
-      members = members;
-      counted = counted;
-      at-start = given .tasks .start
-    }
+          names = λ i h. given .actions .action i h .found;
+        }
+
+    pub given-ranked : tested ranks (length (t .actions)) ≡ Fine
+    given-ranked = rw (← given .actions .count) (given .ranked)
+
+    pub given-starts : Tells startOf n starts t
+    given-starts = given .tasks .start
+
+    pub given-goals : Tells goalOf n goals t
+    given-goals = given .tasks .goal
+
+    pub given-walking :
+        (total : ℕ) (steps : List ℕ) → Rowed t n steps → (list : List ℕ) → Members t list → length list ≡ total
+        → Walking file ranks n a total (acts .vars) (acts .pres) (acts .posts) (acts .places) (acts .manys) steps starts t
+    given-walking total steps rowed list members counted =
+        record {
+          wishes =
+              record {
+                lawful = given .lawful;
+                actions = given .actions .count;
+                tells-var = λ i h. given .actions .action i h .var;
+                tells-pre = λ i h. given .actions .action i h .pre;
+                tells-conditions = λ i h. given .actions .action i h .conditions;
+              };
+          deeds =
+              record {
+                lawful = given .lawful;
+                actions = given .actions .count;
+                tells-var = λ i h. given .actions .action i h .var;
+                tells-post = λ i h. given .actions .action i h .post;
+                tells-conditions = λ i h. given .actions .action i h .conditions;
+              };
+          variables = given .variables;
+          ranked = given .ranked;
+          rowed = rowed;
+          list = list;
+          members = members;
+          counted = counted;
+          at-start = given .tasks .start;
+        }
 
 module _
-  {file ranks : List ℕ} {n a total : ℕ} {vars pres posts places manys steps state : List ℕ} {t : Study}
-  (walking : Walking file ranks n a total vars pres posts places manys steps state t)
+    {file ranks : List ℕ} {n a total : ℕ} {vars pres posts places manys steps state : List ℕ} {t : Study}
+    (walking : Walking file ranks n a total vars pres posts places manys steps state t)
   where
-  -- there is a rank for each action
-  pub as-many-ranks : length ranks ≡ a
-  as-many-ranks = fine-is-rank-list (walking .ranked) .an-entry-for-each
+    -- there is a rank for each action
+    pub as-many-ranks : length ranks ≡ a
+    as-many-ranks = fine-is-rank-list (walking .ranked) .an-entry-for-each
 
-  pub walking-ranked : tested ranks (length (t .actions)) ≡ Fine
-  walking-ranked = rw (← walking .wishes .actions) (walking .ranked)
+    pub walking-ranked : tested ranks (length (t .actions)) ≡ Fine
+    walking-ranked = rw (← walking .wishes .actions) (walking .ranked)
 
-  pub walking-rowed : Rowed t (length (t .tasks)) steps
-  walking-rowed = rw (← walking .variables) (walking .rowed)
+    pub walking-rowed : Rowed t (length (t .tasks)) steps
+    walking-rowed = rw (← walking .variables) (walking .rowed)
 
-  pub walking-prepared :
-    (wants : List ℕ) → Met t → ((list : List ℕ) → Members t list → Counts t list wants)
-    → Prepared file n (length ranks) total vars posts places manys steps wants state t
-  walking-prepared wants met counts =
-    record {
-      deeds = rw as-many-ranks (walking .deeds);
-      variables = walking .variables;
-      rowed = walking .rowed;
-      met = met;
-      list = walking .list;
-      members = walking .members;
-      counted = walking .counted;
-      wanted = counts (walking .list) (walking .members);
-      at-start = walking .at-start
-    }
+    pub walking-prepared :
+        (wants : List ℕ) → Met t → ((list : List ℕ) → Members t list → Counts t list wants)
+        → Prepared file n (length ranks) total vars posts places manys steps wants state t
+    walking-prepared wants met counts =
+        record {
+          deeds = rw as-many-ranks (walking .deeds);
+          variables = walking .variables;
+          rowed = walking .rowed;
+          met = met;
+          list = walking .list;
+          members = walking .members;
+          counted = walking .counted;
+          wanted = counts (walking .list) (walking .members);
+          at-start = walking .at-start;
+        }
 
 -- a table of zeros holds 0 wherever one looks
 pub all-zeros : (n j : ℕ) → _≡_ {A = ℕ} (getD (replicate n 0) j 0) 0

@@ -35,7 +35,7 @@ at-most m xs once below =
       arith,
       length-rising m,
       distinct-within xs (rising m) once
-      (λ x h. rw (getD-rising m x (below x h)) at (entry-in (rising m) x (omega (arith, length-rising m, below x h)))),
+          (λ x h. rw (getD-rising m x (below x h)) at (entry-in (rising m) x (omega (arith, length-rising m, below x h)))),
     )
 
 -- ---- the start
@@ -73,7 +73,7 @@ module _ {file : List ℕ} {n a total : ℕ} {vars posts places manys steps want
         arith,
         prep .counted,
         at-most 256 (prep .list) (prep .members .once)
-        (λ x h. omega (arith, on-walk-usable (prep .members .only x h), prep .deeds .lawful .few-actions)),
+            (λ x h. omega (arith, on-walk-usable (prep .members .only x h), prep .deeds .lawful .few-actions)),
       )
 
 -- ---- between the rounds

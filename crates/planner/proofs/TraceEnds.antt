@@ -34,10 +34,13 @@ module _ (t : Study) (v q left : ℕ) (steps : List ℕ) where
     -- the action that sets the value, with a trace from what it leaves
     module _ (lawful : Lawful t) (some-left : left ≢ 0) {i : ℕ} (setter : SetterIs t v q (Is i)) (after : List ℕ) where
       pub still-broken : Traces t v (preOf t i) (left - 1) steps after Broken → Traces t v q left steps after Broken
-      still-broken (e, none) = (e, λ list way.
-        let s = way-shorter off way in
-        let same : s .last ≡ i = lawful .post-unique (s .last) i (s .usable) (setter .0) (s .var ∙ sym (setter .1)) (s .post ∙ sym (setter .2)) in
-        omega (arith, s .long, none (s .front) (rw same at (s .way))))
+      still-broken (e, none) = (
+        e,
+        λ list way.
+            let s = way-shorter off way in
+            let same : s .last ≡ i = lawful .post-unique (s .last) i (s .usable) (setter .0) (s .var ∙ sym (setter .1)) (s .post ∙ sym (setter .2)) in
+            omega (arith, s .long, none (s .front) (rw same at (s .way))),
+      )
 
       pub one-longer :
           {n : ℕ} → v < 32 → q < 16 → length after ≡ 512
@@ -45,9 +48,16 @@ module _ (t : Study) (v q left : ℕ) (steps : List ℕ) where
           → Traces t v q left steps (longer v (preOf t i) q i after) (Found (n + 1))
       one-longer a b l (list, (way, (e, (row, same)))) =
           let small = pre-small lawful i (setter .0) in
-          let way′ = way-longer (setter .0) (setter .1) (setter .2) off way in
-          (list ++ (i ∷ []),
-          (way′,
-          (omega (arith, length-append list (i ∷ []), e),
-          (row-longer lawful i a small b l way way′ row,
-          same-rows-longer steps after v (preOf t i) q i small b same))))
+          let way′ = way-longer (setter .0) (setter .1) (setter .2) off way in (
+            list ++ (i ∷ []),
+            (
+              way′,
+              (
+                omega (arith, length-append list (i ∷ []), e),
+                (
+                  row-longer lawful i a small b l way way′ row,
+                  same-rows-longer steps after v (preOf t i) q i small b same,
+                ),
+              ),
+            ),
+          )

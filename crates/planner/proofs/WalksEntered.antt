@@ -72,10 +72,11 @@ module _ {t : Study} (lawful : Lawful t) where
           once = distinct-append list walk (m .once) (walk-distinct lawful w) (λ x h g. omega (arith, m .only x h .1, own x g));
           all = λ x o h. has x o h (decLt (varOf t x) v);
           only = λ x h. elim (in-append-cases x list walk h) [
-            inl g ↦ (m .only x g .0, omega (arith, m .only x g .1))
-            | inr g ↦
-                (record { there = rw (own x g) there; list = walk; walk = rw (own x g) w; on = g },
-                omega (arith, own x g))
+            | inl g ↦ (m .only x g .0, omega (arith, m .only x g .1))
+            | inr g ↦ (
+              record { there = rw (own x g) there; list = walk; walk = rw (own x g) w; on = g },
+              omega (arith, own x g),
+            )
           ];
         }
       where
@@ -118,8 +119,13 @@ module _ {t : Study} (lawful : Lawful t) where
 pub all-entered :
     {t : Study} {n : ℕ} {steps : List ℕ} {total : ℕ} → n ≡ length (t .tasks) → Entered t n steps total → WalksAll t n steps (All total)
 all-entered e entered =
-    let m = entered .members in
-    (entered .rowed,
-    (entered .list,
-    (record { once = m .once; all = λ x o. m .all x o (rw e (o .there)); only = λ x h. m .only x h .0 },
-    entered .long)))
+    let m = entered .members in (
+      entered .rowed,
+      (
+        entered .list,
+        (
+          record { once = m .once; all = λ x o. m .all x o (rw e (o .there)); only = λ x h. m .only x h .0 },
+          entered .long,
+        ),
+      ),
+    )

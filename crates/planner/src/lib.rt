@@ -1,13 +1,12 @@
 // Plans a study file: with a rank list, or with the list that its seed draws.
+mod loaded;
+mod taking;
 mod tracing;
 mod wanting;
-mod taking;
-mod loaded;
 
 ghost use Rattle.study.specs.Reading.{reading};
 ghost use Rattle.planning.specs.Planning.{PlansFile};
 ghost use Rattle.planner.specs.Seeded.{PlansSeeded};
-
 use answer::Answer;
 use loader::Loaded;
 use ranking::Tested;
@@ -41,7 +40,8 @@ pub fn plan(file: &[u8], ranks: &[u8], plan: &mut [u8]) -> Answer
         vars: n,
         actions,
         seed: _,
-    } = found else {
+    } = found
+    else {
         return loaded::refused(found);
     };
     let tested = ranking::test(ranks, actions);
@@ -49,7 +49,19 @@ pub fn plan(file: &[u8], ranks: &[u8], plan: &mut [u8]) -> Answer
         return loaded::unranked(tested, ranks.len());
     };
     loaded::plan_loaded(
-        file, ranks, n, actions, &setters, &vars, &pres, &posts, &places, &manys, &mut starts, &goals, plan,
+        file,
+        ranks,
+        n,
+        actions,
+        &setters,
+        &vars,
+        &pres,
+        &posts,
+        &places,
+        &manys,
+        &mut starts,
+        &goals,
+        plan,
     )
 }
 
@@ -82,10 +94,23 @@ pub fn plan_seeded(file: &[u8], plan: &mut [u8]) -> Answer
         vars: n,
         actions,
         seed,
-    } = found else {
+    } = found
+    else {
         return loaded::refused(found);
     };
     loaded::plan_drawn(
-        file, seed, n, actions, &setters, &vars, &pres, &posts, &places, &manys, &mut starts, &goals, plan,
+        file,
+        seed,
+        n,
+        actions,
+        &setters,
+        &vars,
+        &pres,
+        &posts,
+        &places,
+        &manys,
+        &mut starts,
+        &goals,
+        plan,
     )
 }

@@ -12,16 +12,14 @@ ghost use Rattle.ranking.specs.declared.Tested.the-variants.{Fine};
 ghost use Rattle.planner.specs.Taking.{Prepared};
 ghost use Rattle.planner.specs.Whole.{notLoaded, notRanked, Known, Given, Walking};
 ghost use Rattle.draw.specs.Draw.{drawn};
-
-use answer::Answer;
-use loader::Loaded;
-use ranking::Tested;
-
 use crate::taking;
 use crate::tracing;
 use crate::tracing::Walked;
 use crate::wanting;
 use crate::wanting::Met;
+use answer::Answer;
+use loader::Loaded;
+use ranking::Tested;
 
 fn refusal(number: u64, first: usize, second: usize) -> Answer
     ensures { λ r. ⌜ r ≡ three number first second ⌝ }
@@ -85,22 +83,29 @@ fn plan_met(
     state: &mut [u8; 32],
     plan: &mut [u8],
 ) -> Answer
-    requires {
-        ⌜ (length (now wants) ≡ 512) × (length (now state) ≡ 32)
+    requires { ⌜ (length (now wants) ≡ 512) × (length (now state) ≡ 32)
         × ((t : Study)
-        × Prepared (now file) n (length (now ranks)) total (now vars) (now posts) (now places) (now manys) (now steps) (now wants) (now state) t) ⌝
-    }
-    ensures {
-        λ r. ⌜ ((t : Study)
+        × Prepared (now file) n (length (now ranks)) total (now vars) (now posts) (now places) (now manys) (now steps) (now wants) (now state) t) ⌝ }
+    ensures { λ r. ⌜ ((t : Study)
         → Prepared (now (file .entry)) n (length (now (ranks .entry))) total (now (vars .entry)) (now (posts .entry)) (now (places .entry)) (now (manys .entry))
-          (now (steps .entry)) (now (wants .entry)) (now (state .entry)) t
+        (now (steps .entry)) (now (wants .entry)) (now (state .entry)) t
         → Tested·of (now (ranks .entry)) (length (t .actions)) ≡ Fine
-        → Plans t (now (ranks .entry)) (now (plan .entry)) r (now (plan .exit))) ⌝
-    }
+        → Plans t (now (ranks .entry)) (now (plan .entry)) r (now (plan .exit))) ⌝ }
 {
     let mut out = [0u8; 256];
     let taken = taking::take_all(
-        file, ranks, n, total, vars, posts, places, manys, steps, wants, state, &mut out,
+        file,
+        ranks,
+        n,
+        total,
+        vars,
+        posts,
+        places,
+        manys,
+        steps,
+        wants,
+        state,
+        &mut out,
     );
     if taken < total {
         return refusal(12, taken, 0);
@@ -128,24 +133,31 @@ fn plan_walked(
     state: &mut [u8; 32],
     plan: &mut [u8],
 ) -> Answer
-    requires {
-        ⌜ (length (now state) ≡ 32)
+    requires { ⌜ (length (now state) ≡ 32)
         × ((t : Study)
-        × Walking (now file) (now ranks) n actions total (now vars) (now pres) (now posts) (now places) (now manys) (now steps) (now state) t) ⌝
-    }
-    ensures {
-        λ r. ⌜ ((t : Study)
+        × Walking (now file) (now ranks) n actions total (now vars) (now pres) (now posts) (now places) (now manys) (now steps) (now state) t) ⌝ }
+    ensures { λ r. ⌜ ((t : Study)
         → Walking (now (file .entry)) (now (ranks .entry)) n actions total (now (vars .entry)) (now (pres .entry)) (now (posts .entry)) (now (places .entry))
-          (now (manys .entry)) (now (steps .entry)) (now (state .entry)) t
-        → Plans t (now (ranks .entry)) (now (plan .entry)) r (now (plan .exit))) ⌝
-    }
+        (now (manys .entry)) (now (steps .entry)) (now (state .entry)) t
+        → Plans t (now (ranks .entry)) (now (plan .entry)) r (now (plan .exit))) ⌝ }
 {
     let mut wants = [0u16; 512];
     let met = wanting::want_all(file, actions, vars, pres, places, manys, steps, &mut wants);
     match met {
         Met::Off { action, var } => refusal(11, action, tracing::wide(var)),
         Met::All => plan_met(
-            file, ranks, n, total, vars, posts, places, manys, steps, &mut wants, state, plan,
+            file,
+            ranks,
+            n,
+            total,
+            vars,
+            posts,
+            places,
+            manys,
+            steps,
+            &mut wants,
+            state,
+            plan,
         ),
     }
 }
@@ -165,25 +177,43 @@ pub(crate) fn plan_loaded(
     goals: &[u8; 32],
     plan: &mut [u8],
 ) -> Answer
-    requires {
-        ⌜ (length (now starts) ≡ 32)
+    requires { ⌜ (length (now starts) ≡ 32)
         × ((t : Study)
-        × Given (now file) (now ranks) n actions (actionTables (now setters) (now vars) (now pres) (now posts) (now places) (now manys)) (now starts) (now goals) t) ⌝
-    }
-    ensures {
-        λ r. ⌜ ((t : Study)
+        × Given (now file) (now ranks) n actions (actionTables (now setters) (now vars) (now pres) (now posts) (now places) (now manys)) (now starts) (now goals) t) ⌝ }
+    ensures { λ r. ⌜ ((t : Study)
         → Given (now (file .entry)) (now (ranks .entry)) n actions
-          (actionTables (now (setters .entry)) (now (vars .entry)) (now (pres .entry)) (now (posts .entry)) (now (places .entry)) (now (manys .entry)))
-          (now (starts .entry)) (now (goals .entry)) t
-        → Plans t (now (ranks .entry)) (now (plan .entry)) r (now (plan .exit))) ⌝
-    }
+        (actionTables (now (setters .entry)) (now (vars .entry)) (now (pres .entry)) (now (posts .entry)) (now (places .entry)) (now (manys .entry)))
+        (now (starts .entry)) (now (goals .entry)) t
+        → Plans t (now (ranks .entry)) (now (plan .entry)) r (now (plan .exit))) ⌝ }
 {
     let mut steps = [0u16; 512];
-    let walked = tracing::walk_all(n, actions, setters, vars, pres, posts, starts, goals, &mut steps);
+    let walked = tracing::walk_all(
+        n,
+        actions,
+        setters,
+        vars,
+        pres,
+        posts,
+        starts,
+        goals,
+        &mut steps,
+    );
     match walked {
         Walked::NoWalk(v) => refusal(10, v, 0),
         Walked::All(total) => plan_walked(
-            file, ranks, n, actions, total, vars, pres, posts, places, manys, &steps, starts, plan,
+            file,
+            ranks,
+            n,
+            actions,
+            total,
+            vars,
+            pres,
+            posts,
+            places,
+            manys,
+            &steps,
+            starts,
+            plan,
         ),
     }
 }
@@ -204,18 +234,14 @@ pub(crate) fn plan_drawn(
     goals: &[u8; 32],
     plan: &mut [u8],
 ) -> Answer
-    requires {
-        ⌜ (length (now starts) ≡ 32)
+    requires { ⌜ (length (now starts) ≡ 32)
         × ((t : Study)
-        × Known (now file) n actions seed (actionTables (now setters) (now vars) (now pres) (now posts) (now places) (now manys)) (now starts) (now goals) t) ⌝
-    }
-    ensures {
-        λ r. ⌜ ((t : Study)
+        × Known (now file) n actions seed (actionTables (now setters) (now vars) (now pres) (now posts) (now places) (now manys)) (now starts) (now goals) t) ⌝ }
+    ensures { λ r. ⌜ ((t : Study)
         → Known (now (file .entry)) n actions seed
-          (actionTables (now (setters .entry)) (now (vars .entry)) (now (pres .entry)) (now (posts .entry)) (now (places .entry)) (now (manys .entry)))
-          (now (starts .entry)) (now (goals .entry)) t
-        → Plans t (drawn seed actions) (now (plan .entry)) r (now (plan .exit))) ⌝
-    }
+        (actionTables (now (setters .entry)) (now (vars .entry)) (now (pres .entry)) (now (posts .entry)) (now (places .entry)) (now (manys .entry)))
+        (now (starts .entry)) (now (goals .entry)) t
+        → Plans t (drawn seed actions) (now (plan .entry)) r (now (plan .exit))) ⌝ }
 {
     let mut ranks = [0u8; 256];
     draw::draw(seed, actions as u64, &mut ranks);

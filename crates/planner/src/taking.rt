@@ -4,7 +4,6 @@ ghost use Prim.Native.Nat.{ℕ, _+_, _*_, _≤_, _<_};
 ghost use lib.ListN.{length, getD, take};
 ghost use Rattle.study.specs.Study.{Study};
 ghost use Rattle.planner.specs.Taking.{Prepared, TakenGreedily, Readable, FirstOpen, Lowerable, loweredAll, Sound, HeldRight, Looked, Noted, Guarded, Chosen};
-
 use crate::tracing;
 
 // The ready action of least rank, or that none is ready.
@@ -40,15 +39,11 @@ fn ready(
     state: &[u8; 32],
     held: &mut [u8; 32],
 ) -> Choice
-    requires {
-        ⌜ Sound (now file) (now places) (now manys) (now steps) (now state) 256 v
+    requires { ⌜ Sound (now file) (now places) (now manys) (now steps) (now state) 256 v
         × HeldRight (now file) (now places) (now manys) (now steps) (now state) (now held) v
-        × (length (now held) ≡ 32) ⌝
-    }
-    ensures {
-        λ r. ⌜ Looked (now (file .entry)) (now (places .entry)) (now (manys .entry)) (now (steps .entry)) (now (wants .entry)) (now (state .entry)) v r
-        × Noted (now (file .entry)) (now (places .entry)) (now (manys .entry)) (now (steps .entry)) (now (state .entry)) (now (held .entry)) (now (held .exit)) ⌝
-    }
+        × (length (now held) ≡ 32) ⌝ }
+    ensures { λ r. ⌜ Looked (now (file .entry)) (now (places .entry)) (now (manys .entry)) (now (steps .entry)) (now (wants .entry)) (now (state .entry)) v r
+        × Noted (now (file .entry)) (now (places .entry)) (now (manys .entry)) (now (steps .entry)) (now (state .entry)) (now (held .entry)) (now (held .exit)) ⌝ }
 {
     let here = 16 * v + tracing::wide(state[v]);
     let step = steps[here] as usize;
@@ -79,10 +74,8 @@ fn best(
     held: &mut [u8; 32],
 ) -> Choice
     requires { ⌜ Guarded (now file) (now places) (now manys) (now steps) (now state) (length (now ranks)) n (now held) ⌝ }
-    ensures {
-        λ r. ⌜ Chosen (now (ranks .entry)) n (now (file .entry)) (now (places .entry)) (now (manys .entry)) (now (steps .entry)) (now (wants .entry)) (now (state .entry)) r
-        × Noted (now (file .entry)) (now (places .entry)) (now (manys .entry)) (now (steps .entry)) (now (state .entry)) (now (held .entry)) (now (held .exit)) ⌝
-    }
+    ensures { λ r. ⌜ Chosen (now (ranks .entry)) n (now (file .entry)) (now (places .entry)) (now (manys .entry)) (now (steps .entry)) (now (wants .entry)) (now (state .entry)) r
+        × Noted (now (file .entry)) (now (places .entry)) (now (manys .entry)) (now (steps .entry)) (now (state .entry)) (now (held .entry)) (now (held .exit)) ⌝ }
 {
     let mut least = 256;
     let mut chosen = 0;
@@ -133,23 +126,29 @@ pub(crate) fn take_all(
     state: &mut [u8; 32],
     out: &mut [u8; 256],
 ) -> usize
-    requires {
-        ⌜ (length (now wants) ≡ 512) × (length (now state) ≡ 32) × (length (now out) ≡ 256)
+    requires { ⌜ (length (now wants) ≡ 512) × (length (now state) ≡ 32) × (length (now out) ≡ 256)
         × ((t : Study)
-        × Prepared (now file) n (length (now ranks)) total (now vars) (now posts) (now places) (now manys) (now steps) (now wants) (now state) t) ⌝
-    }
+        × Prepared (now file) n (length (now ranks)) total (now vars) (now posts) (now places) (now manys) (now steps) (now wants) (now state) t) ⌝ }
     ensures { λ r. ⌜ (r ≤ total) × (length (now (out .exit)) ≡ 256) ⌝ }
-    ensures {
-        λ r. ⌜ ((t : Study)
+    ensures { λ r. ⌜ ((t : Study)
         → Prepared (now (file .entry)) n (length (now (ranks .entry))) total (now (vars .entry)) (now (posts .entry)) (now (places .entry)) (now (manys .entry))
-          (now (steps .entry)) (now (wants .entry)) (now (state .entry)) t
-        → TakenGreedily t (now (ranks .entry)) (take r (now (out .exit)))) ⌝
-    }
+        (now (steps .entry)) (now (wants .entry)) (now (state .entry)) t
+        → TakenGreedily t (now (ranks .entry)) (take r (now (out .exit)))) ⌝ }
 {
     let mut held = [0u8; 32];
     let mut k = 0;
     while k < total {
-        let next = best(file, ranks, n, places, manys, steps, wants, state, &mut held);
+        let next = best(
+            file,
+            ranks,
+            n,
+            places,
+            manys,
+            steps,
+            wants,
+            state,
+            &mut held,
+        );
         let Choice::Action(i) = next else {
             return k;
         };

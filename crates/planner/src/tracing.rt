@@ -32,11 +32,16 @@ pub(crate) fn wide(x: u8) -> usize
     x as usize
 }
 
-fn setter(setters: &[u8; 512], vars: &[u8; 256], posts: &[u8; 256], actions: usize, v: usize, q: u8) -> Named
+fn setter(
+    setters: &[u8; 512],
+    vars: &[u8; 256],
+    posts: &[u8; 256],
+    actions: usize,
+    v: usize,
+    q: u8,
+) -> Named
     requires { ⌜ (v < 32) × (q < 16) × (actions ≤ 256) ⌝ }
-    ensures {
-        λ r. ⌜ ((t : Study) (pres : List ℕ) → Moves actions (now (setters .entry)) (now (vars .entry)) pres (now (posts .entry)) t → SetterIs t v q r) ⌝
-    }
+    ensures { λ r. ⌜ ((t : Study) (pres : List ℕ) → Moves actions (now (setters .entry)) (now (vars .entry)) pres (now (posts .entry)) t → SetterIs t v q r) ⌝ }
 {
     let i = wide(setters[16 * v + wide(q)]);
     if actions <= i {
@@ -64,18 +69,14 @@ fn trace(
     posts: &[u8; 256],
     steps: &mut [u16; 512],
 ) -> Traced
-    requires {
-        ⌜ (v < 32) × (start < 16) × (q < 16) × (length (now steps) ≡ 512)
-        × ((t : Study) × Moves actions (now setters) (now vars) (now pres) (now posts) t) ⌝
-    }
+    requires { ⌜ (v < 32) × (start < 16) × (q < 16) × (length (now steps) ≡ 512)
+        × ((t : Study) × Moves actions (now setters) (now vars) (now pres) (now posts) t) ⌝ }
     ensures { λ r. ⌜ (length (now (steps .exit)) ≡ 512) × Short left r ⌝ }
-    ensures {
-        λ r. ⌜ ((t : Study)
+    ensures { λ r. ⌜ ((t : Study)
         → Moves actions (now (setters .entry)) (now (vars .entry)) (now (pres .entry)) (now (posts .entry)) t
         → startOf t v ≡ start
         → EmptyRow v (now (steps .entry))
-        → Traces t v q left (now (steps .entry)) (now (steps .exit)) r) ⌝
-    }
+        → Traces t v q left (now (steps .entry)) (now (steps .exit)) r) ⌝ }
 {
     let here = 16 * v + wide(q);
     if q == start {
@@ -90,7 +91,18 @@ fn trace(
         return Traced::Broken;
     };
     let pre = pres[i];
-    let traced = trace(v, start, pre, left - 1, actions, setters, vars, pres, posts, steps);
+    let traced = trace(
+        v,
+        start,
+        pre,
+        left - 1,
+        actions,
+        setters,
+        vars,
+        pres,
+        posts,
+        steps,
+    );
     let Traced::Found(n) = traced else {
         return Traced::Broken;
     };
@@ -111,29 +123,36 @@ pub(crate) fn walk_all(
     goals: &[u8; 32],
     steps: &mut [u16; 512],
 ) -> Walked
-    requires {
-        ⌜ (length (now steps) ≡ 512)
+    requires { ⌜ (length (now steps) ≡ 512)
         × ((t : Study)
         × Moves actions (now setters) (now vars) (now pres) (now posts) t
         × (n ≡ length (t .tasks))
         × Tells startOf n (now starts) t
-        × Tells goalOf n (now goals) t) ⌝
-    }
+        × Tells goalOf n (now goals) t) ⌝ }
     ensures { λ r. ⌜ length (now (steps .exit)) ≡ 512 ⌝ }
-    ensures {
-        λ r. ⌜ ((t : Study)
+    ensures { λ r. ⌜ ((t : Study)
         → Moves actions (now (setters .entry)) (now (vars .entry)) (now (pres .entry)) (now (posts .entry)) t
         → n ≡ length (t .tasks)
         → Tells startOf n (now (starts .entry)) t
         → Tells goalOf n (now (goals .entry)) t
         → ((v : ℕ) → v < 32 → EmptyRow v (now (steps .entry)))
-        → WalksAll t n (now (steps .exit)) r) ⌝
-    }
+        → WalksAll t n (now (steps .exit)) r) ⌝ }
 {
     let mut total = 0;
     let mut v = 0;
     while v < n {
-        let traced = trace(v, starts[v], goals[v], 16, actions, setters, vars, pres, posts, steps);
+        let traced = trace(
+            v,
+            starts[v],
+            goals[v],
+            16,
+            actions,
+            setters,
+            vars,
+            pres,
+            posts,
+            steps,
+        );
         let Traced::Found(k) = traced else {
             return Walked::NoWalk(v);
         };

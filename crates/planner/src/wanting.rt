@@ -7,7 +7,6 @@ ghost use Rattle.walks.specs.Walks.{conditionsOf};
 ghost use Rattle.planner.specs.Facts.{Wishes};
 ghost use Rattle.planner.specs.Rows.{Rowed};
 ghost use Rattle.planner.specs.Wanting.{StandAt, WantsEach, WantsAll};
-
 use crate::tracing;
 
 // Every condition is on its variable's walk; or the first of an action's conditions that is not.
@@ -19,27 +18,18 @@ pub(crate) enum Wanted {
 // The same over all walk actions; or the lowest that has a condition off its walk, with the condition's variable.
 pub(crate) enum Met {
     All,
-    Off {
-        action: usize,
-        var: u8,
-    },
+    Off { action: usize, var: u8 },
 }
 
 // Passes the conditions of one action, and counts each value that they want.
 fn want(file: &[u8], place: usize, many: u8, steps: &[u16; 512], wants: &mut [u16; 512]) -> Wanted
-    requires {
-        ⌜ (length (now wants) ≡ 512) × ((j : ℕ) → getD (now wants) j 0 ≤ 255 * 255)
-        × ((t : Study) × (i : ℕ) × StandAt (now file) place many t i) ⌝
-    }
-    ensures {
-        λ r. ⌜ (length (now (wants .exit)) ≡ 512)
-        × ((j : ℕ) → getD (now (wants .exit)) j 0 ≤ getD (now (wants .entry)) j 0 + 255) ⌝
-    }
-    ensures {
-        λ r. ⌜ ((t : Study) (i : ℕ)
+    requires { ⌜ (length (now wants) ≡ 512) × ((j : ℕ) → getD (now wants) j 0 ≤ 255 * 255)
+        × ((t : Study) × (i : ℕ) × StandAt (now file) place many t i) ⌝ }
+    ensures { λ r. ⌜ (length (now (wants .exit)) ≡ 512)
+        × ((j : ℕ) → getD (now (wants .exit)) j 0 ≤ getD (now (wants .entry)) j 0 + 255) ⌝ }
+    ensures { λ r. ⌜ ((t : Study) (i : ℕ)
         → StandAt (now (file .entry)) place many t i
-        → WantsEach (conditionsOf t i) (now (steps .entry)) (now (wants .entry)) (now (wants .exit)) r) ⌝
-    }
+        → WantsEach (conditionsOf t i) (now (steps .entry)) (now (wants .entry)) (now (wants .exit)) r) ⌝ }
 {
     let mut at = place;
     let mut k = 0;
@@ -67,17 +57,13 @@ pub(crate) fn want_all(
     steps: &[u16; 512],
     wants: &mut [u16; 512],
 ) -> Met
-    requires {
-        ⌜ (length (now wants) ≡ 512) × ((j : ℕ) → getD (now wants) j 0 ≡ 0)
-        × ((t : Study) × Wishes (now file) actions (now vars) (now pres) (now places) (now manys) t) ⌝
-    }
+    requires { ⌜ (length (now wants) ≡ 512) × ((j : ℕ) → getD (now wants) j 0 ≡ 0)
+        × ((t : Study) × Wishes (now file) actions (now vars) (now pres) (now places) (now manys) t) ⌝ }
     ensures { λ r. ⌜ length (now (wants .exit)) ≡ 512 ⌝ }
-    ensures {
-        λ r. ⌜ ((t : Study)
+    ensures { λ r. ⌜ ((t : Study)
         → Wishes (now (file .entry)) actions (now (vars .entry)) (now (pres .entry)) (now (places .entry)) (now (manys .entry)) t
         → Rowed t (length (t .tasks)) (now (steps .entry))
-        → WantsAll t (now (wants .exit)) r) ⌝
-    }
+        → WantsAll t (now (wants .exit)) r) ⌝ }
 {
     let mut i = 0;
     while i < actions {

@@ -51,16 +51,16 @@ pub data Plans (t : Study) (ranks before : List ℕ) : Answer → List ℕ → T
   no-walk : {v : ℕ} → tested ranks (length (t .actions)) ≡ Fine → LowestWithout t v → Plans t ranks before (refusal 10 v) before
   off-walk : {i u : ℕ} → tested ranks (length (t .actions)) ≡ Fine → Walks t → LowestOff t i u → Plans t ranks before (three 11 i u) before
   ring :
-    {n x : ℕ} → tested ranks (length (t .actions)) ≡ Fine → Walks t → Met t
-    → OnRing (OnAWalk t) (ComesBefore t) x
-    → FreeOfRings t n
-    → Plans t ranks before (refusal 12 n) before
+      {n x : ℕ} → tested ranks (length (t .actions)) ≡ Fine → Walks t → Met t
+      → OnRing (OnAWalk t) (ComesBefore t) x
+      → FreeOfRings t n
+      → Plans t ranks before (refusal 12 n) before
   no-room :
-    {list : List ℕ} → tested ranks (length (t .actions)) ≡ Fine → FirstPlan t ranks list → length before < length list
-    → Plans t ranks before (refusal 13 (length list)) before
+      {list : List ℕ} → tested ranks (length (t .actions)) ≡ Fine → FirstPlan t ranks list → length before < length list
+      → Plans t ranks before (refusal 13 (length list)) before
   a-plan :
-    {list : List ℕ} → tested ranks (length (t .actions)) ≡ Fine → FirstPlan t ranks list → length list ≤ length before
-    → Plans t ranks before (done (length list) 0) (list ++ drop (length list) before)
+      {list : List ℕ} → tested ranks (length (t .actions)) ≡ Fine → FirstPlan t ranks list → length list ≤ length before
+      → Plans t ranks before (done (length list) 0) (list ++ drop (length list) before)
 
 -- what planning a file may answer
 abbrev pub PlansFile : Said → List ℕ → List ℕ → Answer → List ℕ → Type 0

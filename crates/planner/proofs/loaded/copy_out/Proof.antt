@@ -35,10 +35,13 @@ loop-less c = omega arith
 
 loop-again : tie.Need-loop-again Inv-loop μ-loop
 loop-again c =
-    let l = c .before .before in
-    (omega arith,
-    (rw (l .loop .inv .1 .0) (copied-one-more (l .before .args .out .now) (l .before .args .plan .now) (l .loop .k) (omega arith) (omega arith)),
-    length-set (l .loop .plan) _ _ ∙ l .loop .inv .1 .1))
+    let l = c .before .before in (
+      omega arith,
+      (
+        rw (l .loop .inv .1 .0) (copied-one-more (l .before .args .out .now) (l .before .args .plan .now) (l .loop .k) (omega arith) (omega arith)),
+        length-set (l .loop .plan) _ _ ∙ l .loop .inv .1 .1,
+      ),
+    )
 
 same-length : tie.Need-same-length Inv-loop μ-loop
 same-length c = search needs

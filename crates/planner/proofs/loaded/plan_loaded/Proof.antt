@@ -32,15 +32,15 @@ plan-walked-requires c κs =
     let s = c .before .before .before .before .before .before .before .before .before .before .before .before in
     let (t, given) = s .pre .1 in
     let (rowed, (list, (members, counted))) =
-      rw (c .before .before .before .before .walked2 .given .1) at
-      (c .before .before .before .before .before .before .walk-all .ensures .1 t (given-moves given) (given .variables) (given-starts given) (given-goals given) (λ v h x k. all-zeros 512 (16 * v + x))) in
+    rw (c .before .before .before .before .walked2 .given .1) at
+    (c .before .before .before .before .before .before .walk-all .ensures .1 t (given-moves given) (given .variables) (given-starts given) (given-goals given) (λ v h x k. all-zeros 512 (16 * v + x))) in
     (s .pre .0, (t, given-walking given _ _ rowed list members counted))
 
 returns : tie.Need-returns
 returns c t given =
     let without =
-      rw (c .before .before .walked .given .1) at
-      (c .before .before .before .before .walk-all .ensures .1 t (given-moves given) (given .variables) (given-starts given) (given-goals given) (λ v h x k. all-zeros 512 (16 * v + x))) in
+    rw (c .before .before .walked .given .1) at
+    (c .before .before .before .before .walk-all .ensures .1 t (given-moves given) (given .variables) (given-starts given) (given-goals given) (λ v h x k. all-zeros 512 (16 * v + x))) in
     rw (c .refusal .ensures) (no-walk (given-ranked given) without)
 
 same-length : tie.Need-same-length
@@ -49,8 +49,8 @@ same-length c = search needs
 returns-2 : tie.Need-returns-2
 returns-2 c t given =
     let (rowed, (list, (members, counted))) =
-      rw (c .before .before .before .before .before .before .before .walked2 .given .1) at
-      (c .before .before .before .before .before .before .before .before .before .walk-all .ensures .1 t (given-moves given) (given .variables) (given-starts given) (given-goals given) (λ v h x k. all-zeros 512 (16 * v + x))) in
+    rw (c .before .before .before .before .before .before .before .walked2 .given .1) at
+    (c .before .before .before .before .before .before .before .before .before .walk-all .ensures .1 t (given-moves given) (given .variables) (given-starts given) (given-goals given) (λ v h x k. all-zeros 512 (16 * v + x))) in
     c .before .before .plan-walked .ensures t (given-walking given _ _ rowed list members counted)
 
 pub plan-loaded-spec : {M : Type 1} → statement M

@@ -53,17 +53,18 @@ loop-less c = omega arith
 loop-again : tie.Need-loop-again Inv-loop μ-loop
 loop-again c =
     let y = c .before in
-    let l = y .before .before .before in
-    (omega arith,
-    ⊎-elim
-    (λ w. rw (w .6, w .7, w .4 .ensures .0)
-    (choosing-takes (l .loop .inv .1) (rw (w .1 .given .1) at (y .ready .ensures .0)) (rw (w .4 .ensures .0) at (w .5 .taken))))
-    (λ o. ⊎-elim
-    (λ w. rw (w .6, w .7) (choosing-keeps (l .loop .inv .1) (rw (w .1 .given .1) at (y .ready .ensures .0)) (rw (w .4 .ensures .0) at (w .5 .left))))
-    (λ w. rw (w .2, w .3) (choosing-passes (l .loop .inv .1) (rw (w .1 .given .1) at (y .ready .ensures .0))))
-    o)
-    (c .match .came),
-    noted-again (l .loop .inv .2) (y .ready .ensures .1))
+    let l = y .before .before .before in (
+      omega arith,
+      ⊎-elim
+          (λ w. rw (w .6, w .7, w .4 .ensures .0)
+          (choosing-takes (l .loop .inv .1) (rw (w .1 .given .1) at (y .ready .ensures .0)) (rw (w .4 .ensures .0) at (w .5 .taken))))
+          (λ o. ⊎-elim
+          (λ w. rw (w .6, w .7) (choosing-keeps (l .loop .inv .1) (rw (w .1 .given .1) at (y .ready .ensures .0)) (rw (w .4 .ensures .0) at (w .5 .left))))
+          (λ w. rw (w .2, w .3) (choosing-passes (l .loop .inv .1) (rw (w .1 .given .1) at (y .ready .ensures .0))))
+          o)
+          (c .match .came),
+      noted-again (l .loop .inv .2) (y .ready .ensures .1),
+    )
 
 returns : tie.Need-returns Inv-loop μ-loop
 returns c =

@@ -87,9 +87,10 @@ returns-3 c =
     let e = h .before .before .before .before in
     let w = e .before .before .before .before in
     let s = w .before .before .before in
-    let many = e .before .before .if1 .left in
-    (still-open (s .pre .0) _ (w .wide .ensures .0) many _ _ (h .count-held .ensures) _ (c .if3 .taken),
-    notes-more (s .pre .0) _ (w .wide .ensures .0) many _ _ (h .count-held .ensures) _ (s .pre .2) refl)
+    let many = e .before .before .if1 .left in (
+      still-open (s .pre .0) _ (w .wide .ensures .0) many _ _ (h .count-held .ensures) _ (c .if3 .taken),
+      notes-more (s .pre .0) _ (w .wide .ensures .0) many _ _ (h .count-held .ensures) _ (s .pre .2) refl,
+    )
 
 returns-4 : tie.Need-returns-4
 returns-4 c =
@@ -97,10 +98,11 @@ returns-4 c =
     let e = h .before .before .before .before in
     let w = e .before .before .before .before in
     let s = w .before .before .before in
-    let many = e .before .before .if1 .left in
-    (looks-ready (s .pre .0) _ (w .wide .ensures .0) many _ _ (h .count-held .ensures) _
-    (s .pre .1 _ (next-is (s .pre .0) _ (w .wide .ensures .0) many) .1) (e .if2 .left) (c .if3 .left),
-    notes-more (s .pre .0) _ (w .wide .ensures .0) many _ _ (h .count-held .ensures) _ (s .pre .2) refl)
+    let many = e .before .before .if1 .left in (
+      looks-ready (s .pre .0) _ (w .wide .ensures .0) many _ _ (h .count-held .ensures) _
+          (s .pre .1 _ (next-is (s .pre .0) _ (w .wide .ensures .0) many) .1) (e .if2 .left) (c .if3 .left),
+      notes-more (s .pre .0) _ (w .wide .ensures .0) many _ _ (h .count-held .ensures) _ (s .pre .2) refl,
+    )
 
 pub ready-spec : {M : Type 1} → statement M
 ready-spec =

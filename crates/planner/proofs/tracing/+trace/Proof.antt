@@ -115,15 +115,17 @@ module _ (t : ℕ) where
   trace-returns : trace-lts.Need-returns (called t) (trace-at t) trace.Post
   trace-returns c =
       let s = c .before .before in
-      let p = s .pre .1 in
-      ((simp length-set (p .3), omega arith),
-      λ study moves e empty. rw (c .before .wide .ensures .0)
-      (at-start study _ _ (s .args .left) (now (s .args .steps)) (p .0) (p .2) (p .3) empty (e ∙ sym (c .if1 .taken))))
+      let p = s .pre .1 in (
+        (simp length-set (p .3), omega arith),
+        λ study moves e empty. rw (c .before .wide .ensures .0)
+            (at-start study _ _ (s .args .left) (now (s .args .steps)) (p .0) (p .2) (p .3) empty (e ∙ sym (c .if1 .taken))),
+      )
 
   trace-returns-2 : trace-lts.Need-returns-2 (called t) (trace-at t) trace.Post
-  trace-returns-2 c =
-      ((c .before .before .before .pre .1 .3, tt),
-      λ study moves e empty. no-more-left study _ _ _ _ (λ z. c .before .if1 .left (z ∙ e)) (c .if2 .taken))
+  trace-returns-2 c = (
+    (c .before .before .before .pre .1 .3, tt),
+    λ study moves e empty. no-more-left study _ _ _ _ (λ z. c .before .if1 .left (z ∙ e)) (c .if2 .taken),
+  )
 
   trace-setter-requires : trace-lts.Need-setter-requires (called t) (trace-at t) trace.Post
   trace-setter-requires c κs =
@@ -138,11 +140,12 @@ module _ (t : ℕ) where
 
   trace-returns-3 : trace-lts.Need-returns-3 (called t) (trace-at t) trace.Post
   trace-returns-3 c =
-      let s = c .before .before .before .before .before .before in
-      ((s .pre .1 .3, tt),
-      λ study moves e empty.
-      none-sets study _ _ _ _ (λ z. c .before .before .before .before .if1 .left (z ∙ e))
-      (rw (c .enum-told .given .1) at (c .before .before .setter .ensures study _ moves)))
+      let s = c .before .before .before .before .before .before in (
+        (s .pre .1 .3, tt),
+        λ study moves e empty.
+            none-sets study _ _ _ _ (λ z. c .before .before .before .before .if1 .left (z ∙ e))
+            (rw (c .enum-told .given .1) at (c .before .before .setter .ensures study _ moves)),
+      )
 
   trace-element-copy-out-pre : trace-lts.Need-element-copy-out-pre (called t) (trace-at t) trace.Post
   trace-element-copy-out-pre c = named-low (c .before)
@@ -166,11 +169,12 @@ module _ (t : ℕ) where
   trace-returns-4 : trace-lts.Need-returns-4 (called t) (trace-at t) trace.Post
   trace-returns-4 c =
       let a = c .before .before in
-      let f = named-of a in
-      ((a .trace .ensures .0 .0, tt),
-      λ study moves e empty.
-      still-broken study _ _ _ _ (not-start f e) (moves .lawful) (some-left f) (setter-is f study moves) _
-      (traced-is a (c .enum-told2 .given .1) study moves e empty))
+      let f = named-of a in (
+        (a .trace .ensures .0 .0, tt),
+        λ study moves e empty.
+            still-broken study _ _ _ _ (not-start f e) (moves .lawful) (some-left f) (setter-is f study moves) _
+            (traced-is a (c .enum-told2 .given .1) study moves e empty),
+      )
 
   trace-mul-there : trace-lts.Need-mul-there (called t) (trace-at t) trace.Post
   trace-mul-there c = search needs
@@ -210,13 +214,14 @@ module _ (t : ℕ) where
   trace-returns-5 c =
       let a = c .before .before .before .before in
       let f = named-of a in
-      let s = entry-of f in
-      ((simp length-set (a .trace .ensures .0 .0), omega (arith, fewer (c .before .before), some-left f)),
-      λ study moves e empty.
-      rw (c .wide2 .ensures .0, f .before .before .before .before .before .wide .ensures .0, told-pre moves _ (setter-is f study moves .0))
-      (one-longer study _ _ _ (now (s .args .steps)) (not-start f e) (moves .lawful) (some-left f) (setter-is f study moves) _
-      (s .pre .1 .0) (s .pre .1 .2) (a .trace .ensures .0 .0)
-      (traced-is a (c .before .before .traced .given .1) study moves e empty)))
+      let s = entry-of f in (
+        (simp length-set (a .trace .ensures .0 .0), omega (arith, fewer (c .before .before), some-left f)),
+        λ study moves e empty.
+            rw (c .wide2 .ensures .0, f .before .before .before .before .before .wide .ensures .0, told-pre moves _ (setter-is f study moves .0))
+            (one-longer study _ _ _ (now (s .args .steps)) (not-start f e) (moves .lawful) (some-left f) (setter-is f study moves) _
+            (s .pre .1 .0) (s .pre .1 .2) (a .trace .ensures .0 .0)
+            (traced-is a (c .before .before .traced .given .1) study moves e empty)),
+      )
 
 pub +trace-spec : {M : Type 1} → statement M
 +trace-spec =

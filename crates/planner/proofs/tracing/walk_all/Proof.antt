@@ -41,12 +41,13 @@ trace-requires c κs =
     let i = c .before .before .before in
     let s = i .before .before in
     let (l, (t, moves, count, starts, goals)) = s .pre in
-    let h = i .loop-test .taken in
-    (element-copy-out-trace i,
-    told-start-small (moves .lawful) count (now (s .args .starts)) starts _ h,
-    told-goal-small (moves .lawful) count (now (s .args .goals)) goals _ h,
-    i .before .loop .inv .sized,
-    (t, moves))
+    let h = i .loop-test .taken in (
+      element-copy-out-trace i,
+      told-start-small (moves .lawful) count (now (s .args .starts)) starts _ h,
+      told-goal-small (moves .lawful) count (now (s .args .goals)) goals _ h,
+      i .before .loop .inv .sized,
+      (t, moves),
+    )
 
 enum-known-traced : tie.Need-enum-known-traced Inv-loop μ-loop
 enum-known-traced c = search needs
@@ -57,11 +58,12 @@ enum-told c = search needs
 returns : tie.Need-returns Inv-loop μ-loop
 returns c =
     let a = c .before .before in
-    let i = a .before .before .before .before in
-    (a .trace .ensures .0 .0,
-    λ t moves count starts goals empty.
-    stops (i .before .loop .inv) (i .loop-test .taken) _ (rw (c .enum-told .given .1) at (a .trace .ensures)) t
-    (record { moves = moves; count = count; tells-start = starts; tells-goal = goals; empty = empty }))
+    let i = a .before .before .before .before in (
+      a .trace .ensures .0 .0,
+      λ t moves count starts goals empty.
+          stops (i .before .loop .inv) (i .loop-test .taken) _ (rw (c .enum-told .given .1) at (a .trace .ensures)) t
+          (record { moves = moves; count = count; tells-start = starts; tells-goal = goals; empty = empty }),
+    )
 
 add-total : tie.Need-add-total Inv-loop μ-loop
 add-total c =
@@ -89,11 +91,12 @@ loop-again c =
 returns-2 : tie.Need-returns-2 Inv-loop μ-loop
 returns-2 c =
     let u = c .before .loop .inv in
-    let e : c .before .loop .v ≡ c .before .before .args .n = omega (arith, u .inside, c .loop-test .left) in
-    (u .sized,
-    λ t moves count starts goals empty.
-    all-entered count
-    (rw e at (u .entered t (record { moves = moves; count = count; tells-start = starts; tells-goal = goals; empty = empty }))))
+    let e : c .before .loop .v ≡ c .before .before .args .n = omega (arith, u .inside, c .loop-test .left) in (
+      u .sized,
+      λ t moves count starts goals empty.
+          all-entered count
+          (rw e at (u .entered t (record { moves = moves; count = count; tells-start = starts; tells-goal = goals; empty = empty }))),
+    )
 
 pub walk-all-spec : {M : Type 1} → statement M
 walk-all-spec =

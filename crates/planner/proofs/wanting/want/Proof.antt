@@ -57,9 +57,10 @@ element-copy-out-if1 c = omega (arith, there (c .before .before .before .before)
 returns : tie.Need-returns Inv-loop μ-loop
 returns c =
     let d = c .before .before .before .before .before .before in
-    let u = d .before .loop .inv in
-    ((u .size, λ j. omega (arith, u .low j, u .few)),
-    breaks-off u (d .loop-test .taken) (c .before .before .before .before .wide .ensures .0) (c .before .before .wide2 .ensures .0) (c .if1 .taken))
+    let u = d .before .loop .inv in (
+      (u .size, λ j. omega (arith, u .low j, u .few)),
+      breaks-off u (d .loop-test .taken) (c .before .before .before .before .wide .ensures .0) (c .before .before .wide2 .ensures .0) (c .if1 .taken),
+    )
 
 mul-wants : tie.Need-mul-wants Inv-loop μ-loop
 mul-wants c = search needs

@@ -80,10 +80,11 @@ returns : tie.Need-returns Inv-loop μ-loop
 returns c =
     let e = c .before .before .before .want .ensures in
     let d = c .before .before .before .before .before .before .before in
-    let l = d .before .before .before .before .before .before in
-    (e .0 .0,
-    breaks-off (l .before .loop .inv) (l .loop-test .taken) (d .before .before .before .before .wide .ensures .0) (d .before .before .wide2 .ensures .0)
-    (d .if1 .taken) (rw (c .before .wanted .given .1) at (e .1)))
+    let l = d .before .before .before .before .before .before in (
+      e .0 .0,
+      breaks-off (l .before .loop .inv) (l .loop-test .taken) (d .before .before .before .before .wide .ensures .0) (d .before .before .wide2 .ensures .0)
+          (d .if1 .taken) (rw (c .before .wanted .given .1) at (e .1)),
+    )
 
 enum-told : tie.Need-enum-told Inv-loop μ-loop
 enum-told c = search needs
