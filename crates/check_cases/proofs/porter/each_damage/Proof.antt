@@ -1,0 +1,59 @@
+-- `check_cases::porter::each_damage` is safe and ends: its loop counts up to 56.
+-- Assumes nothing.
+use Prim.Native.Nat.{_-_}
+use borrow.Author.Needs.{needs}
+use Rattle.check_cases.proofs.porter.each_damage.Statement.{statement}
+use Rattle.check_cases.proofs.porter.each_damage.Tie as tie
+
+abbrev Inv-loop : tie.InvT-loop
+Inv-loop at₀ t2 at = Unit
+
+abbrev μ-loop : tie.MeasureT-loop
+μ-loop at₀ t2 at = 56 - at
+
+loop-holds : tie.Need-loop-holds Inv-loop μ-loop
+loop-holds c = search needs
+
+slice-aggregate-text : tie.Need-slice-aggregate-text Inv-loop μ-loop
+slice-aggregate-text c = search needs
+
+text-requires : tie.Need-text-requires Inv-loop μ-loop
+text-requires c κs = search needs
+
+number-requires : tie.Need-number-requires Inv-loop μ-loop
+number-requires c κs = search needs
+
+damaged-requires : tie.Need-damaged-requires Inv-loop μ-loop
+damaged-requires c κs = search needs
+
+end-line-requires : tie.Need-end-line-requires Inv-loop μ-loop
+end-line-requires c κs = search needs
+
+add-at : tie.Need-add-at Inv-loop μ-loop
+add-at c = search needs
+
+loop-less : tie.Need-loop-less Inv-loop μ-loop
+loop-less c = search needs
+
+loop-again : tie.Need-loop-again Inv-loop μ-loop
+loop-again c = search needs
+
+returns : tie.Need-returns Inv-loop μ-loop
+returns c = search needs
+
+pub each-damage-spec : {M : Type 1} → statement M
+each-damage-spec =
+    tie.close
+    (tie.spec
+    Inv-loop
+    μ-loop
+    loop-holds
+    slice-aggregate-text
+    text-requires
+    number-requires
+    damaged-requires
+    end-line-requires
+    add-at
+    loop-less
+    loop-again
+    returns)

@@ -1,0 +1,216 @@
+"""Study files, by document 01's text alone: what our programs' outputs are compared with, so nothing here is taken from their code."""
+
+from dataclasses import dataclass, field
+
+VARIABLE, ACTION, CONDITION, TASK, SEED, END = range(1, 7)
+BODY_LENGTHS = {VARIABLE: 1, ACTION: 3, CONDITION: 2, TASK: 3, SEED: 4, END: 0}
+MOST_VARIABLES = 32
+MOST_ACTIONS = 256
+LARGEST_SEED = 2147483646
+
+PORTER = bytes.fromhex(
+    "01 02 01 03 01 02 02 00 00 01 02 01 00 01 02 01 01 02 03 00 01 03 02 01 02 02 00 01 03 00 01 03 01 01 02 00 01 00"
+    " 04 00 00 01 04 01 00 02 04 02 00 01 05 00 00 00 01 06"
+)
+
+
+@dataclass
+class Action:
+    variable: int
+    pre: int
+    post: int
+    conditions: list = field(default_factory=list)  # (variable, value), in rising order of variable
+
+
+@dataclass
+class Study:
+    counts: list = field(default_factory=list)  # by variable: how many values
+    actions: list = field(default_factory=list)
+    starts: list = field(default_factory=list)  # by variable
+    goals: list = field(default_factory=list)
+    seed: int = 0
+
+
+class Refused(Exception):
+    """A file that says no study: the answer number, 1 to 8, and its place."""
+
+    def __init__(self, number, place):
+        super().__init__(number, place)
+        self.number = number
+        self.place = place
+
+
+# One record at a place.
+
+
+def record_at(data, at):
+    """0, the kind, the body's start and length and the place after it; or 2 or 1, no kind, and an empty body at the refusal's place."""
+    if at >= len(data):
+        return 1, 0, len(data), 0, len(data)
+    kind = data[at]
+    if kind not in BODY_LENGTHS:
+        return 2, 0, at, 0, at
+    start = at + 1
+    after = start + BODY_LENGTHS[kind]
+    if after > len(data):
+        return 1, 0, at, 0, at
+    return 0, kind, start, after - start, after
+
+
+# A file: records are tested one by one, each in the order 2, 3, 1, 4, 5, 6, 7.
+
+
+def kinds_allowed(study, last):
+    """The kinds that may come after a record of kind last (None: at the file's start)."""
+    if last is None:
+        return {VARIABLE}
+    if last == VARIABLE:
+        return {VARIABLE, ACTION, TASK}
+    if last in (ACTION, CONDITION):
+        return {ACTION, CONDITION, TASK}
+    if last == TASK:
+        return {TASK} if len(study.starts) < len(study.counts) else {SEED}
+    return {END}
+
+
+def has_value(study, variable, value):
+    return variable < len(study.counts) and value < study.counts[variable]
+
+
+def take_variable(study, count):
+    """Each take_ function answers the fault, 4 to 7, or else 0 with the record taken into the study."""
+    if len(study.counts) == MOST_VARIABLES:
+        return 4
+    if not 2 <= count <= 16:
+        return 5
+    study.counts.append(count)
+    return 0
+
+
+def take_action(study, variable, pre, post):
+    if len(study.actions) == MOST_ACTIONS:
+        return 4
+    if not has_value(study, variable, pre) or not has_value(study, variable, post):
+        return 5
+    if pre == post:
+        return 6
+    if any((a.variable, a.post) == (variable, post) for a in study.actions):
+        return 7
+    study.actions.append(Action(variable, pre, post))
+    return 0
+
+
+def take_condition(study, variable, value):
+    action = study.actions[-1]
+    if not has_value(study, variable, value):
+        return 5
+    if variable == action.variable:
+        return 6
+    if action.conditions and variable <= action.conditions[-1][0]:
+        return 6
+    action.conditions.append((variable, value))
+    return 0
+
+
+def take_task(study, variable, start, goal):
+    if variable != len(study.starts):
+        return 5
+    if not has_value(study, variable, start) or not has_value(study, variable, goal):
+        return 5
+    study.starts.append(start)
+    study.goals.append(goal)
+    return 0
+
+
+def take_seed(study, *digits):
+    number = int.from_bytes(digits, "big")
+    if not 1 <= number <= LARGEST_SEED:
+        return 5
+    study.seed = number
+    return 0
+
+
+def take_end(study):
+    return 0
+
+
+TAKE = {
+    VARIABLE: take_variable,
+    ACTION: take_action,
+    CONDITION: take_condition,
+    TASK: take_task,
+    SEED: take_seed,
+    END: take_end,
+}
+
+
+def read(data):
+    """The study that a file says; raises Refused."""
+    study = Study()
+    at = 0
+    last = None
+    while last != END:
+        if at == len(data):
+            raise Refused(1, at)
+        kind = data[at]
+        if kind not in BODY_LENGTHS:
+            raise Refused(2, at)
+        if kind not in kinds_allowed(study, last):
+            raise Refused(3, at)
+        after = at + 1 + BODY_LENGTHS[kind]
+        if after > len(data):
+            raise Refused(1, at)
+        fault = TAKE[kind](study, *data[at + 1 : after])
+        if fault:
+            raise Refused(fault, at)
+        at = after
+        last = kind
+    if at < len(data):
+        raise Refused(8, at)
+    return study
+
+
+def check(data):
+    """The three numbers of checking a file."""
+    try:
+        study = read(data)
+    except Refused as refused:
+        return refused.number, refused.place, 0
+    return 0, len(study.actions), len(study.counts)
+
+
+# Files from records.
+
+
+def variable_record(count):
+    return bytes([VARIABLE, count])
+
+
+def action_record(variable, pre, post):
+    return bytes([ACTION, variable, pre, post])
+
+
+def condition_record(variable, value):
+    return bytes([CONDITION, variable, value])
+
+
+def task_record(variable, start, goal):
+    return bytes([TASK, variable, start, goal])
+
+
+def seed_record(number):
+    return bytes([SEED]) + number.to_bytes(4, "big")
+
+
+def end_record():
+    return bytes([END])
+
+
+def written(study):
+    """The file that says this study."""
+    data = b"".join(variable_record(count) for count in study.counts)
+    for a in study.actions:
+        data += action_record(a.variable, a.pre, a.post)
+        data += b"".join(condition_record(*c) for c in a.conditions)
+    data += b"".join(task_record(v, p, q) for v, (p, q) in enumerate(zip(study.starts, study.goals)))
+    return data + seed_record(study.seed) + end_record()
