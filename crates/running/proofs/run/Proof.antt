@@ -1,0 +1,21 @@
+-- `running::run` meets its contract: its tables are as long as their types say, so what is loaded is what the file says.
+-- Assumes nothing.
+use borrow.Author.Needs.{needs}
+use Rattle.running.proofs.Loaded.{new-tables}
+use Rattle.running.proofs.run.Statement.{statement}
+use Rattle.running.proofs.run.Tie as tie
+
+load-requires : tie.Need-load-requires
+load-requires c κs = search needs
+
+run-loaded-requires : tie.Need-run-loaded-requires
+run-loaded-requires c κs = (_, _, c .before .before .before .before .before .before .before .before .load .ensures new-tables)
+
+same-length : tie.Need-same-length
+same-length c = search needs
+
+returns : tie.Need-returns
+returns c = search needs
+
+pub run-spec : {M : Type 1} → statement M
+run-spec = tie.close (tie.spec load-requires run-loaded-requires same-length returns)
