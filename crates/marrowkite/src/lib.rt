@@ -1,0 +1,91 @@
+// The library that a host links: document 01's calls, exported to C with their contracts.
+ghost use mathlib.Core.Path.{_≡_};
+ghost use lib.ListN.{length};
+ghost use Rattle.study.specs.Reading.{reading};
+ghost use Rattle.checker.specs.Check.{checkAnswer};
+ghost use Rattle.draw.specs.Draw.{drawAnswer, drawLeaves};
+ghost use Rattle.runs.specs.Run.{ran, runAnswer, runLeaves};
+ghost use Rattle.planning.specs.Planning.{PlansFile};
+ghost use Rattle.planner.specs.Seeded.{PlansSeeded};
+ghost use Rattle.records.specs.Records.{recordAt};
+ghost use Rattle.marrowkite.specs.Told.{told};
+use answer::Answer;
+use records::Found;
+
+// One record in numbers: 0 with its kind, where its body starts, the body's length and the place after it; else 2 or 1,
+// with the refusal's place as start and next.
+#[repr(C)]
+pub struct Record {
+    pub number: u64,
+    pub kind: u64,
+    pub start: u64,
+    pub len: u64,
+    pub next: u64,
+}
+
+fn refused(number: u64, place: usize) -> Record
+    ensures { λ r. ⌜ r ≡ record { number = number; kind = 0; start = place; len = 0; next = place } ⌝ }
+{
+    Record {
+        number,
+        kind: 0,
+        start: place as u64,
+        len: 0,
+        next: place as u64,
+    }
+}
+
+#[no_mangle]
+pub extern "C" fn marrowkite_record_at(file: &[u8], at: u64) -> Record
+    ensures { λ r. ⌜ r ≡ told (recordAt (now (file .entry)) at) ⌝ }
+{
+    let found = records::record_at(file, at as usize);
+    match found {
+        Found::There { kind, start, next } => Record {
+            number: 0,
+            kind: kind as u64,
+            start: start as u64,
+            len: (next - start) as u64,
+            next: next as u64,
+        },
+        Found::Unknown { place } => refused(2, place),
+        Found::Cut { kind: _, place } => refused(1, place),
+        Found::Ended { place } => refused(1, place),
+    }
+}
+
+#[no_mangle]
+pub extern "C" fn marrowkite_check(file: &[u8]) -> Answer
+    ensures { λ r. ⌜ r ≡ checkAnswer (reading (now (file .entry))) ⌝ }
+{
+    checker::check(file)
+}
+
+#[no_mangle]
+pub extern "C" fn marrowkite_plan(file: &[u8], ranks: &[u8], plan: &mut [u8]) -> Answer
+    ensures { λ r. ⌜ PlansFile (reading (now (file .entry))) (now (ranks .entry)) (now (plan .entry)) r (now (plan .exit)) ⌝ }
+{
+    planner::plan(file, ranks, plan)
+}
+
+#[no_mangle]
+pub extern "C" fn marrowkite_plan_seeded(file: &[u8], plan: &mut [u8]) -> Answer
+    ensures { λ r. ⌜ PlansSeeded (reading (now (file .entry))) (now (plan .entry)) r (now (plan .exit)) ⌝ }
+{
+    planner::plan_seeded(file, plan)
+}
+
+#[no_mangle]
+pub extern "C" fn marrowkite_run(file: &[u8], plan: &[u8], state: &mut [u8]) -> Answer
+    ensures { λ r. ⌜ r ≡ runAnswer (ran (reading (now (file .entry))) (length (now (state .entry))) (now (plan .entry))) ⌝ }
+    ensures { λ r. ⌜ now (state .exit) ≡ runLeaves (ran (reading (now (file .entry))) (length (now (state .entry))) (now (plan .entry))) (now (state .entry)) ⌝ }
+{
+    running::run(file, plan, state)
+}
+
+#[no_mangle]
+pub extern "C" fn marrowkite_draw(seed: u64, count: u64, ranks: &mut [u8]) -> Answer
+    ensures { λ r. ⌜ (r ≡ drawAnswer seed count (length (now (ranks .entry)))) × (now (ranks .exit) ≡ drawLeaves seed count (now (ranks .entry))) ⌝ }
+{
+    draw::draw(seed, count, ranks)
+}
