@@ -1,0 +1,11 @@
+pub mod Tests
+pub mod Searching
+pub mod Tracing
+pub mod Meeting
+pub mod Barring
+pub mod Choosing
+pub mod Listing
+pub mod Reference
+pub mod Straights
+pub mod Rows
+pub mod Worked
