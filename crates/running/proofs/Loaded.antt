@@ -63,11 +63,3 @@ module _ {file : List ℕ} {n actions x : ℕ} {tables : Tables} {t : Study} (sa
         small = small-starts;
         tasks = record { count = holds .tasks .count; goal = holds .tasks .goal };
       }
-
--- the tables of a call, before anything is loaded
-pub new-tables :
-    Sized
-    (tables (replicate 32 0)
-    (actionTables (replicate 512 0) (replicate 256 0) (replicate 256 0) (replicate 256 0) (replicate 256 0) (replicate 256 0))
-    (replicate 32 0) (replicate 32 0))
-new-tables = record { counts = refl; setters = refl; vars = refl; pres = refl; posts = refl; places = refl; manys = refl; starts = refl; goals = refl }

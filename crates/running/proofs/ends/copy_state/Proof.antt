@@ -2,13 +2,12 @@
 -- the first v bytes are those of the state, and the later ones are as they came.
 -- Assumes nothing.
 use mathlib.Core.Path.{_≡_, refl, _∙_}
-use mathlib.Core.List.{List, _++_}
-use Prim.Native.Nat.{ℕ, _+_, _-_, _≤_, _<_}
-use native.Mathlib.Numerals.{add-one}
+use mathlib.Core.List.{_++_}
+use Prim.Native.Nat.{_-_, _≤_}
 use native.Mathlib.Omega.{arith}
-use lib.ListN.{length, getD, take, drop, set, length-set}
-use lib.Seq.{take-suc, drop-cons, set-at, append-snoc, length-take-le}
+use lib.ListN.{length, take, drop, length-set}
 use borrow.Author.Needs.{needs}
+use Rattle.plain.proofs.Copies.{copied-one-more}
 use Rattle.running.proofs.ends.copy_state.Statement.{statement}
 use Rattle.running.proofs.ends.copy_state.Tie as tie
 
@@ -18,19 +17,6 @@ Inv-loop n state buffer₀ v₀ buffer v =
 
 abbrev μ-loop : tie.MeasureT-loop
 μ-loop n state buffer₀ v₀ buffer v = n - v
-
--- a turn's store
-one-more :
-    (state buffer : List ℕ) (v : ℕ) → v < length state → v < length buffer
-    → set (take v state ++ drop v buffer) v (getD state v 0) ≡ take (v + 1) state ++ drop (v + 1) buffer
-one-more state buffer v h g =
-    rw (
-      add-one v,
-      drop-cons buffer v 0 g,
-      set-at (take v state) (getD buffer v 0) _ (getD state v 0) v (length-take-le v state (omega arith)),
-      take-suc state v 0 h,
-      append-snoc,
-    )
 
 loop-holds : tie.Need-loop-holds Inv-loop μ-loop
 loop-holds c = (omega arith, (λ h. refl, refl))
@@ -52,7 +38,7 @@ loop-again c =
     let l = c .before .before in (
       omega arith,
       (
-        λ h. rw (l .loop .inv .1 .0 h) (one-more (l .before .args .state .now) (l .before .args .buffer .now) (l .loop .v) (omega arith) (omega arith)),
+        λ h. rw (l .loop .inv .1 .0 h) (copied-one-more (l .before .args .state .now) (l .before .args .buffer .now) (l .loop .v) (omega arith) (omega arith)),
         length-set (l .loop .buffer) _ _ ∙ l .loop .inv .1 .1,
       ),
     )
