@@ -1,0 +1,1453 @@
+"""The oracle: every call of document 01, from its definitions alone.
+
+It stands by itself and uses neither the Rattle code nor the other scripts. One convention is the project's and not document
+01's: which five numbers a record that is not there gives (see record_at; crates/records/specs/Records.antt has it too). Each
+call is a function of the call's name that takes the inputs in the call's order, buffers as bytes, and answers (numbers,
+buffer afterwards):
+
+    record_at(file, at)          five numbers: number, kind, start of the body, its length, the place after it
+    check(file)                  three numbers, as all that follow
+    plan(file, ranks, buffer)
+    plan_seeded(file, buffer)
+    run(file, steps, buffer)
+    draw(seed, count, buffer)
+
+record_at and check write nothing; their buffer afterwards is b"". `printed(input)` is what the program prints.
+`calls(seed, n)` yields n calls as (name, inputs), and `answer(name, inputs)` is what such a call answers.
+
+    python3 tests/oracle.py --self-test      document 01's worked cases; both ways of planning on random small files
+"""
+
+import itertools
+import random
+import sys
+import time
+from collections import Counter
+from dataclasses import dataclass, field, replace
+
+sys.dont_write_bytecode = True
+
+VARIABLE, ACTION, CONDITION, TASK, SEED, END = 1, 2, 3, 4, 5, 6
+BODY_LENGTH = {VARIABLE: 1, ACTION: 3, CONDITION: 2, TASK: 3, SEED: 4, END: 0}
+MOST_VARIABLES, MOST_VALUES, MOST_ACTIONS = 32, 16, 256
+LARGEST_SEED = 2147483646
+LONGEST_FILE = 25030
+
+# Planning tries every list if there are no more lists than this; the self-test tries many more.
+LISTS_TO_TRY = 300
+
+
+@dataclass
+class Action:
+    variable: int
+    pre: int
+    post: int
+    conditions: list = field(default_factory=list)  # (variable, value)
+
+
+@dataclass
+class Study:
+    counts: list = field(default_factory=list)  # by variable: how many values
+    actions: list = field(default_factory=list)
+    tasks: list = field(default_factory=list)  # by variable: (start, goal)
+    seed: int = None
+    ended: bool = False
+
+    def start(self, variable):
+        return self.tasks[variable][0]
+
+    def goal(self, variable):
+        return self.tasks[variable][1]
+
+
+class Refused(Exception):
+    """The three numbers of a refusal."""
+
+    def __init__(self, number, first, second=0):
+        super().__init__(number, first, second)
+        self.numbers = (number, first, second)
+
+
+# ---------------------------------------------------------------------------------------------------------------------
+# The study file
+
+
+def record_at(file, at):
+    """The record at a place: 0, kind, start of the body, its length, the place after it. Where none is there, 2 or 1 in
+    that order, and an empty body at the place given (the file length if that is at or past the end). That the kind is then
+    0, and start and next both that place, is the project's convention."""
+    if at >= len(file):
+        return (1, 0, len(file), 0, len(file)), b""
+    kind = file[at]
+    if kind not in BODY_LENGTH:
+        return (2, 0, at, 0, at), b""
+    start, length = at + 1, BODY_LENGTH[kind]
+    if start + length > len(file):
+        return (1, 0, at, 0, at), b""
+    return (0, kind, start, length, start + length), b""
+
+
+def may_come(study, kind):
+    """Whether a record of this kind is allowed after what was read: one or more variables; any number of actions, each
+    followed by its conditions; one task for each variable; one seed; one end."""
+    some_variable, some_action, some_task = bool(study.counts), bool(study.actions), bool(study.tasks)
+    all_tasks = some_variable and len(study.tasks) == len(study.counts)
+    return {
+        VARIABLE: not some_action and not some_task,
+        ACTION: some_variable and not some_task,
+        CONDITION: some_action and not some_task,
+        TASK: some_variable and not all_tasks,
+        SEED: all_tasks and study.seed is None,
+        END: study.seed is not None,
+    }[kind]
+
+
+def is_value(study, variable, value):
+    """There is such a variable and the value is not too large."""
+    return variable < len(study.counts) and value < study.counts[variable]
+
+
+def fault_in_variable(study, count):
+    if len(study.counts) == MOST_VARIABLES:
+        return 4
+    if not 2 <= count <= MOST_VALUES:
+        return 5
+    return 0
+
+
+def fault_in_action(study, variable, pre, post):
+    if len(study.actions) == MOST_ACTIONS:
+        return 4
+    if not (is_value(study, variable, pre) and is_value(study, variable, post)):
+        return 5
+    if pre == post:
+        return 6
+    if setter(study, variable, post) is not None:
+        return 7
+    return 0
+
+
+def fault_in_condition(study, variable, value):
+    action = study.actions[-1]
+    if not is_value(study, variable, value):
+        return 5
+    if variable == action.variable or any(variable <= earlier for earlier, _ in action.conditions):
+        return 6
+    return 0
+
+
+def fault_in_task(study, variable, start, goal):
+    next_variable = len(study.tasks)
+    if variable != next_variable or not (is_value(study, variable, start) and is_value(study, variable, goal)):
+        return 5
+    return 0
+
+
+def fault_in_seed(study, seed):
+    return 0 if 1 <= seed <= LARGEST_SEED else 5
+
+
+def fault_of_record(study, file, place):
+    """The fault, in the order 2, 3, 1, 4, 5, 6, 7, of the record at a place inside the file; 0 if it has none."""
+    kind = file[place]
+    if kind not in BODY_LENGTH:
+        return 2
+    if not may_come(study, kind):
+        return 3
+    (number, _, start, length, _), _ = record_at(file, place)
+    if number:
+        return number
+    body = file[start : start + length]
+    if kind == VARIABLE:
+        return fault_in_variable(study, *body)
+    if kind == ACTION:
+        return fault_in_action(study, *body)
+    if kind == CONDITION:
+        return fault_in_condition(study, *body)
+    if kind == TASK:
+        return fault_in_task(study, *body)
+    if kind == SEED:
+        return fault_in_seed(study, int.from_bytes(body, "big"))
+    return 0
+
+
+def take(study, kind, body):
+    """Enters a record that has no fault."""
+    if kind == VARIABLE:
+        study.counts.append(body[0])
+    elif kind == ACTION:
+        study.actions.append(Action(*body))
+    elif kind == CONDITION:
+        study.actions[-1].conditions.append(tuple(body))
+    elif kind == TASK:
+        study.tasks.append((body[1], body[2]))
+    elif kind == SEED:
+        study.seed = int.from_bytes(body, "big")
+    else:
+        study.ended = True
+
+
+def read(file):
+    """What the file says; raises Refused with 1 to 8."""
+    study = Study()
+    place = 0
+    while not study.ended:
+        if place == len(file):
+            raise Refused(1, place)
+        fault = fault_of_record(study, file, place)
+        if fault:
+            raise Refused(fault, place)
+        (_, kind, start, length, after), _ = record_at(file, place)
+        take(study, kind, file[start : start + length])
+        place = after
+    if place < len(file):
+        raise Refused(8, place)
+    return study
+
+
+# ---------------------------------------------------------------------------------------------------------------------
+# States and straight plans
+
+
+def may_be_done(state, action):
+    return state[action.variable] == action.pre and all(state[v] == q for v, q in action.conditions)
+
+
+def done(state, action):
+    """The state after the action."""
+    return tuple(action.post if v == action.variable else q for v, q in enumerate(state))
+
+
+def start_state(study):
+    return tuple(start for start, _ in study.tasks)
+
+
+def goal_state(study):
+    return tuple(goal for _, goal in study.tasks)
+
+
+class TooMany(Exception):
+    """There are more lists than were to be tried."""
+
+
+def straight_plans(study, lists_to_try):
+    """Every straight plan, by trying every list whose actions may be done one after another with no value held before."""
+    found = []
+    tried = 0
+
+    def try_list(steps, state, held):
+        nonlocal tried
+        tried += 1
+        if tried > lists_to_try:
+            raise TooMany
+        if state == goal_state(study):
+            found.append(steps)
+        for number, action in enumerate(study.actions):
+            taken = (action.variable, action.post)
+            if may_be_done(state, action) and taken not in held:
+                try_list(steps + (number,), done(state, action), held | {taken})
+
+    start = start_state(study)
+    try_list((), start, frozenset(enumerate(start)))
+    return found
+
+
+def first_in_dictionary_order(plans, ranks):
+    return min(plans, key=lambda steps: [ranks[number] for number in steps])
+
+
+# ---------------------------------------------------------------------------------------------------------------------
+# Walks, 'comes before', rings
+
+
+def setter(study, variable, value):
+    """The one action that sets the variable to the value, or None."""
+    for number, action in enumerate(study.actions):
+        if action.variable == variable and action.post == value:
+            return number
+    return None
+
+
+def walk_of(study, variable):
+    """The walk, traced from the goal value back; None if there is none."""
+    walk, passed = [], set()
+    value = study.goal(variable)
+    while value != study.start(variable):
+        number = setter(study, variable, value)
+        if number is None or value in passed:
+            return None
+        passed.add(value)
+        walk.insert(0, number)
+        value = study.actions[number].pre
+    return walk
+
+
+def values_on_walk(study, walks, variable):
+    return {study.start(variable)} | {study.actions[number].post for number in walks[variable]}
+
+
+def walk_actions(walks):
+    return sorted(itertools.chain.from_iterable(walks))
+
+
+def comes_before(study, walks):
+    """All pairs (a, b) of walk actions in which a comes before b by one of the rules."""
+    pairs = set()
+    for walk in walks:  # (a)
+        pairs |= set(zip(walk, walk[1:]))
+    for number in walk_actions(walks):
+        for v, q in study.actions[number].conditions:
+            for other in walks[v]:
+                if study.actions[other].post == q:  # (b)
+                    pairs.add((other, number))
+                if study.actions[other].pre == q:  # (c)
+                    pairs.add((number, other))
+    return pairs
+
+
+def closure(pairs, members):
+    """By member, as the bits of a number, all that come after it at any remove: the transitive closure."""
+    after = {a: 0 for a in members}
+    for a, b in pairs:
+        after[a] |= 1 << b
+    for middle in members:
+        for a in members:
+            if after[a] >> middle & 1:
+                after[a] |= after[middle]
+    return after
+
+
+def on_rings(after):
+    """The actions that come, at some remove, before themselves."""
+    return {a for a in after if after[a] >> a & 1}
+
+
+def free_of_rings(after):
+    """The actions that are on no ring and come, at any remove, after no ring."""
+    rings = on_rings(after)
+    return {a for a in after if a not in rings and not any(after[ring] >> a & 1 for ring in rings)}
+
+
+def off_walk_condition(study, walks):
+    """The lowest walk action with a condition off its variable's walk, and its lowest such variable; or None."""
+    for number in walk_actions(walks):
+        for v, q in sorted(study.actions[number].conditions):
+            if q not in values_on_walk(study, walks, v):
+                return number, v
+    return None
+
+
+def least_ranks_first(after, ranks):
+    """Again and again the action of least rank among those all of whose predecessors are done. No definition of document
+    01 says so; that it gives the first plan in dictionary order is tested where every list can be tried."""
+    steps = []
+    left = set(after)
+    while left:
+        waiting = 0
+        for a in left:
+            waiting |= after[a]
+        ready = [a for a in left if not waiting >> a & 1]
+        steps.append(min(ready, key=lambda a: ranks[a]))
+        left.remove(steps[-1])
+    return tuple(steps)
+
+
+# ---------------------------------------------------------------------------------------------------------------------
+# Planning
+
+
+def planned_by_walks(study, ranks):
+    """The plan by walks and 'comes before'; raises Refused with 10, 11 or 12."""
+    walks = [walk_of(study, v) for v in range(len(study.counts))]
+    if None in walks:
+        raise Refused(10, walks.index(None))
+    off = off_walk_condition(study, walks)
+    if off:
+        raise Refused(11, *off)
+    after = closure(comes_before(study, walks), walk_actions(walks))
+    if on_rings(after):
+        raise Refused(12, len(free_of_rings(after)))
+    return least_ranks_first(after, ranks)
+
+
+def planned(study, ranks, lists_to_try=LISTS_TO_TRY):
+    """The plan; raises Refused with 10, 11 or 12. In a study that is small enough every list is tried, and both ways have
+    to agree: the first straight plan in dictionary order, or a refusal exactly if there is no straight plan."""
+    try:
+        plans = straight_plans(study, lists_to_try)
+    except TooMany:
+        return planned_by_walks(study, ranks)
+    try:
+        by_walks = planned_by_walks(study, ranks)
+    except Refused as refused:
+        assert not plans, f"{refused.numbers}, but {plans[0]} is a straight plan of {study}"
+        raise
+    assert plans, f"{by_walks} is said to be a straight plan of {study}, which has none"
+    assert len({len(steps) for steps in plans}) == 1, f"straight plans of unequal length: {study}"
+    first = first_in_dictionary_order(plans, ranks)
+    assert by_walks == first, f"{by_walks} is said to be first, but {first} is: {study}"
+    return first
+
+
+def test_ranks(ranks, count):
+    """Raises Refused with 9, the length first."""
+    if len(ranks) != count:
+        raise Refused(9, len(ranks), 1)
+    for index, rank in enumerate(ranks):
+        if rank >= count or rank in ranks[:index]:
+            raise Refused(9, index)
+
+
+# ---------------------------------------------------------------------------------------------------------------------
+# The calls
+
+
+def next_number(last):
+    return 16807 * last % 2147483647
+
+
+def drawn(seed, count):
+    """The rank list and the generator's last number."""
+    ranks, last = list(range(count)), seed
+    for i in range(count - 1, 0, -1):
+        last = next_number(last)
+        j = last % (i + 1)
+        ranks[i], ranks[j] = ranks[j], ranks[i]
+    return ranks, last
+
+
+def filled(buffer, entries):
+    """The buffer with its first bytes filled; raises Refused with 13 if it is too short."""
+    if len(buffer) < len(entries):
+        raise Refused(13, len(entries))
+    return bytes(entries) + buffer[len(entries) :]
+
+
+def check(file):
+    try:
+        study = read(file)
+    except Refused as refused:
+        return refused.numbers, b""
+    return (0, len(study.actions), len(study.counts)), b""
+
+
+def plan(file, ranks, buffer):
+    try:
+        study = read(file)
+        test_ranks(ranks, len(study.actions))
+        steps = planned(study, ranks)
+        return (0, len(steps), 0), filled(buffer, steps)
+    except Refused as refused:
+        return refused.numbers, buffer
+
+
+def plan_seeded(file, buffer):
+    try:
+        study = read(file)
+        ranks, _ = drawn(study.seed, len(study.actions))
+        steps = planned(study, ranks)
+        return (0, len(steps), 0), filled(buffer, steps)
+    except Refused as refused:
+        return refused.numbers, buffer
+
+
+def failing_variable(state, action):
+    """Why an action may not be done: its own variable if pre fails, else the lowest variable whose condition fails."""
+    if state[action.variable] != action.pre:
+        return action.variable
+    return min(v for v, q in action.conditions if state[v] != q)
+
+
+def end_state(study, steps):
+    """The state after all steps, which is the goal; raises Refused with 14 to 17."""
+    state = start_state(study)
+    held = set(enumerate(state))
+    for index, number in enumerate(steps):
+        if number >= len(study.actions):
+            raise Refused(14, index)
+        action = study.actions[number]
+        if not may_be_done(state, action):
+            raise Refused(15, index, failing_variable(state, action))
+        state = done(state, action)
+        if (action.variable, action.post) in held:
+            raise Refused(16, index, action.variable)
+        held.add((action.variable, action.post))
+    for v, goal in enumerate(goal_state(study)):
+        if state[v] != goal:
+            raise Refused(17, v)
+    return state
+
+
+def run(file, steps, buffer):
+    try:
+        study = read(file)
+        filled(buffer, bytes(len(study.counts)))  # 13 comes before the steps
+        return (0, len(study.counts), 0), filled(buffer, end_state(study, steps))
+    except Refused as refused:
+        return refused.numbers, buffer
+
+
+def draw(seed, count, buffer):
+    try:
+        if not 1 <= seed <= LARGEST_SEED:
+            raise Refused(18, seed)
+        if count > MOST_ACTIONS:
+            raise Refused(19, count)
+        ranks, last = drawn(seed, count)
+        return (0, last, 0), filled(buffer, ranks)
+    except Refused as refused:
+        return refused.numbers, buffer
+
+
+CALLS = {
+    "record_at": record_at,
+    "check": check,
+    "plan": plan,
+    "plan_seeded": plan_seeded,
+    "run": run,
+    "draw": draw,
+}
+
+
+def answer(name, inputs):
+    """What a call answers: its numbers and its buffer afterwards."""
+    return CALLS[name](*inputs)
+
+
+def printed(standard_input):
+    """What the program prints, which reads one byte more than the longest file allowed."""
+    file = standard_input[: LONGEST_FILE + 1]
+    numbers, buffer = plan_seeded(file, bytes(MOST_ACTIONS))
+    if numbers[0]:
+        return "refused %d %d %d\n" % numbers
+    study = read(file)
+    lines = [f"plan {numbers[1]}\n"]
+    for step, number in enumerate(buffer[: numbers[1]]):
+        action = study.actions[number]
+        lines.append(f"{step} {number} {action.variable} {action.pre} {action.post}\n")
+    return "".join(lines)
+
+
+# ---------------------------------------------------------------------------------------------------------------------
+# Files from studies. Nothing is tested: a study may be faulty.
+
+
+def action_records(action):
+    return [bytes([ACTION, action.variable, action.pre, action.post])] + [
+        bytes([CONDITION, v, q]) for v, q in action.conditions
+    ]
+
+
+def records_of(study):
+    return (
+        [bytes([VARIABLE, count]) for count in study.counts]
+        + [record for action in study.actions for record in action_records(action)]
+        + [bytes([TASK, v, start, goal]) for v, (start, goal) in enumerate(study.tasks)]
+        + [bytes([SEED]) + study.seed.to_bytes(4, "big"), bytes([END])]
+    )
+
+
+def file_of(study):
+    return b"".join(records_of(study))
+
+
+# ---------------------------------------------------------------------------------------------------------------------
+# Random studies that load. Each generator takes a random.Random and answers a Study.
+
+
+def some_seed(rng):
+    return rng.choice([1, 2, LARGEST_SEED, rng.randint(1, LARGEST_SEED), rng.randint(1, LARGEST_SEED)])
+
+
+def some_conditions(rng, state, own, share):
+    """Conditions that hold in a state, on each variable but the own one with probability share."""
+    return [(v, q) for v, q in enumerate(state) if v != own and rng.random() < share]
+
+
+def walking_actions(rng, rows, share):
+    """One action for each step of each row of values, with conditions that hold in one common order of all steps."""
+    order = [v for v, row in enumerate(rows) for _ in row[1:]]
+    rng.shuffle(order)
+    at = [0] * len(rows)
+    actions = []
+    for v in order:
+        state = [row[i] for row, i in zip(rows, at)]
+        actions.append(Action(v, rows[v][at[v]], rows[v][at[v] + 1], some_conditions(rng, state, v, share)))
+        at[v] += 1
+    return actions
+
+
+def other_actions(rng, counts, taken, share, chance):
+    """Actions that set values that none sets yet, from anywhere and with any conditions."""
+    actions = []
+    for v, count in enumerate(counts):
+        for post in range(count):
+            if (v, post) not in taken and rng.random() < chance:
+                pre = rng.choice([q for q in range(count) if q != post])
+                state = [rng.randrange(n) for n in counts]
+                actions.append(Action(v, pre, post, some_conditions(rng, state, v, share)))
+    return actions
+
+
+def solvable(rng, most_variables=4, most_values=4, fewest_variables=1):
+    """A study with a straight plan, and actions beside it."""
+    counts = [rng.randint(2, most_values) for _ in range(rng.randint(fewest_variables, most_variables))]
+    rows = [rng.sample(range(count), rng.randint(rng.choice([1, 2]), count)) for count in counts]
+    share = rng.choice([0, 0.2, 0.3, 0.5, 0.8, 1])
+    actions = walking_actions(rng, rows, share)
+    taken = {(action.variable, action.post) for action in actions}
+    actions += other_actions(rng, counts, taken, rng.choice([0, 0.3, 1]), rng.choice([0, 0.3, 0.8]))
+    rng.shuffle(actions)
+    return Study(counts, actions, [(row[0], row[-1]) for row in rows], some_seed(rng))
+
+
+def solvable_with_steps(rng, fewest=2):
+    """A solvable study whose plan has some steps."""
+    while True:
+        study = solvable(rng, fewest_variables=2)
+        walks = [walk_of(study, v) for v in range(len(study.counts))]
+        if len(walk_actions(walks)) >= fewest:
+            return study, walks
+
+
+def without_walk(rng):
+    """10: a walk action is missing, or begins at a value that the walk reaches only later."""
+    study, walks = solvable_with_steps(rng)
+    walk = rng.choice([walk for walk in walks if walk])
+    number = rng.choice(walk)
+    later = [study.actions[a].post for a in walk[walk.index(number) + 1 :]]
+    if later and rng.random() < 0.6:
+        study.actions[number].pre = rng.choice(later)
+    else:
+        del study.actions[number]
+    return study
+
+
+def off_walk(rng):
+    """11: some walk actions want values that are on no walk."""
+    study, walks = solvable_with_steps(rng)
+    for _ in range(rng.randint(1, 3)):
+        action = study.actions[rng.choice(walk_actions(walks))]
+        v = rng.choice([v for v in range(len(study.counts)) if v != action.variable])
+        off = sorted(set(range(study.counts[v])) - values_on_walk(study, walks, v))
+        if not off:
+            off = [study.counts[v]]
+            study.counts[v] += 1
+        action.conditions = sorted({**dict(action.conditions), v: rng.choice(off)}.items())
+    return study
+
+
+def with_ring(rng, study, walks):
+    """Some walk actions of several variables, each made to want the value that the next one sets, or leaves."""
+    moving = [walk for walk in walks if walk]
+    circle = [rng.choice(walk) for walk in rng.sample(moving, rng.randint(2, len(moving)))]
+    wanted = rng.choice(["pre", "post"])
+    for number, other in zip(circle, circle[1:] + circle[:1]):
+        action, following = study.actions[number], study.actions[other]
+        conditions = {**dict(action.conditions), following.variable: getattr(following, wanted)}
+        action.conditions = sorted(conditions.items())
+
+
+def with_free_action(rng, study):
+    """One more variable with one more action, somewhere among the others."""
+    study.counts.append(2)
+    study.actions.insert(rng.randint(0, len(study.actions)), Action(len(study.counts) - 1, 0, 1))
+    study.tasks.append((0, 1))
+
+
+def ringed(rng, most_variables=4, most_values=4):
+    """Mostly 12: conditions on walks, but in no common order; with free actions or not."""
+    study = solvable(rng, most_variables, most_values, 2)
+    walks = [walk_of(study, v) for v in range(len(study.counts))]
+    share = rng.choice([0, 0.2, 0.4, 0.7])
+    for number in walk_actions(walks):
+        state = [rng.choice(sorted(values_on_walk(study, walks, v))) for v in range(len(study.counts))]
+        action = study.actions[number]
+        action.conditions = some_conditions(rng, state, action.variable, share)
+    if sum(bool(walk) for walk in walks) > 1 and rng.random() < 0.6:
+        with_ring(rng, study, walks)
+    if rng.random() < 0.4:
+        with_free_action(rng, study)
+    return study
+
+
+def anything(rng):
+    """Any small study that loads."""
+    counts = [rng.randint(2, 4) for _ in range(rng.randint(1, 4))]
+    actions = other_actions(rng, counts, set(), rng.choice([0, 0.2, 0.6]), rng.choice([0.3, 0.7, 1]))
+    rng.shuffle(actions)
+    tasks = [(rng.randrange(count), rng.randrange(count)) for count in counts]
+    return Study(counts, actions, tasks, some_seed(rng))
+
+
+def middling(rng):
+    """Too large to try every list: some 20 to 60 steps."""
+    return rng.choice([solvable, solvable, ringed])(rng, 12, 9)
+
+
+def small_study(rng):
+    kinds = [solvable, without_walk, off_walk, ringed, anything]
+    return rng.choices(kinds, [5, 1, 1, 3, 2])[0](rng)
+
+
+# ---------------------------------------------------------------------------------------------------------------------
+# Studies at the limits
+
+
+def study_of_rows(rng, counts, rows, share):
+    actions = walking_actions(rng, rows, share)
+    rng.shuffle(actions)
+    return Study(counts, actions, [(row[0], row[-1]) for row in rows], some_seed(rng))
+
+
+def longest(rng):
+    """25,030 bytes: 256 actions, each with 31 conditions, all of them in the one straight plan."""
+    rows = [rng.sample(range(16), 9) for _ in range(32)]
+    return study_of_rows(rng, [16] * 32, rows, 1)
+
+
+def longest_with_ring(rng):
+    """As long, and one condition changed to another value of its walk."""
+    study = longest(rng)
+    action = rng.choice(study.actions)
+    index = rng.randrange(31)
+    v, q = action.conditions[index]
+    walk = walk_of(study, v)
+    values = sorted({study.start(v), *(study.actions[a].post for a in walk)} - {q})
+    action.conditions[index] = (v, rng.choice(values))
+    return study
+
+
+def longest_off_walk(rng):
+    """As long, and some conditions changed to values on no walk."""
+    study = longest(rng)
+    for action in rng.sample(study.actions, rng.randint(1, 3)):
+        index = rng.randrange(31)
+        v, _ = action.conditions[index]
+        set_values = {a.post for a in study.actions if a.variable == v} | {study.start(v)}
+        action.conditions[index] = (v, rng.choice(sorted(set(range(16)) - set_values)))
+    return study
+
+
+def longest_without_walk(rng):
+    """As long, and one goal that no action sets."""
+    study = longest(rng)
+    v = rng.randrange(32)
+    set_values = {a.post for a in study.actions if a.variable == v} | {study.start(v)}
+    study.tasks[v] = (study.start(v), rng.choice(sorted(set(range(16)) - set_values)))
+    return study
+
+
+def longest_at_rest(rng):
+    """As long, and start and goal agree: the empty plan."""
+    study = longest(rng)
+    study.tasks = [(goal, goal) for _, goal in study.tasks]
+    return study
+
+
+def most_steps(rng):
+    """A plan of 256 steps in 18 variables of 16 values, with few conditions."""
+    rows = [rng.sample(range(16), 16) for _ in range(17)] + [[0, 1]]
+    return study_of_rows(rng, [16] * 18, rows, rng.choice([0, 0.05, 0.2]))
+
+
+def most_variables(rng):
+    """32 variables, and a walk of up to 15 steps now and then."""
+    counts = [rng.choice([2, 16]) for _ in range(32)]
+    rows = [rng.sample(range(n), rng.choice([1, 2, n if rng.random() < 0.3 else 1])) for n in counts]
+    return study_of_rows(rng, counts, rows, rng.choice([0, 0.1, 1]))
+
+
+def whole_circles(rng):
+    """16 variables of 16 values, each value set: 256 actions, walks of any length round the circle."""
+    actions = []
+    for v in range(16):
+        circle = rng.sample(range(16), 16)
+        actions += [Action(v, circle[i - 1], circle[i]) for i in range(16)]
+    rng.shuffle(actions)
+    tasks = [(rng.randrange(16), rng.randrange(16)) for _ in range(16)]
+    return Study([16] * 16, actions, tasks, some_seed(rng))
+
+
+def one_action_each(rng):
+    """32 variables of 2 values, one action with 31 conditions each."""
+    return study_of_rows(rng, [2] * 32, [[0, 1]] * 32, 1)
+
+
+LARGE = [
+    longest,
+    longest_with_ring,
+    longest_off_walk,
+    longest_without_walk,
+    longest_at_rest,
+    most_steps,
+    most_steps,
+    most_variables,
+    whole_circles,
+    one_action_each,
+]
+
+
+def large_study(rng):
+    return rng.choice(LARGE)(rng)
+
+
+# ---------------------------------------------------------------------------------------------------------------------
+# Damaged files. Each generator takes a random.Random and answers bytes that mostly do not load.
+
+TELLING = [0, 1, 2, 3, 4, 5, 6, 7, 8, 15, 16, 17, 31, 32, 33, 127, 128, 255]
+BAD_SEEDS = [0, 2147483647, 2147483648, 4294967295]
+
+
+def some_byte(rng):
+    return rng.choice(TELLING) if rng.random() < 0.8 else rng.randrange(256)
+
+
+def with_byte_changed(rng, file):
+    at = rng.randrange(len(file))
+    byte = rng.choice([some_byte(rng), (file[at] + 1) % 256, (file[at] - 1) % 256])
+    return file[:at] + bytes([byte]) + file[at + 1 :]
+
+
+def with_byte_inserted(rng, file):
+    at = rng.randint(0, len(file))
+    return file[:at] + bytes([some_byte(rng)]) + file[at:]
+
+
+def with_byte_removed(rng, file):
+    at = rng.randrange(len(file))
+    return file[:at] + file[at + 1 :]
+
+
+def cut(rng, file):
+    return file[: rng.randint(0, len(file) - 1)]
+
+
+def grown(rng, file):
+    return file + bytes(some_byte(rng) for _ in range(rng.choice([1, 1, 2, 5, 40])))
+
+
+BYTE_DAMAGE = [with_byte_changed, with_byte_changed, with_byte_inserted, with_byte_removed, cut, grown]
+
+
+def telling_record(rng, study):
+    """A record of any kind whose numbers are near those that the study has."""
+    kind = rng.choice([VARIABLE, ACTION, ACTION, ACTION, CONDITION, CONDITION, CONDITION, TASK, TASK, SEED, END])
+    if kind == SEED:
+        return bytes([kind]) + rng.choice(BAD_SEEDS + [1, LARGEST_SEED]).to_bytes(4, "big")
+    variables = len(study.counts)
+    near = [0, 1, 2, 3, variables - 1, variables, *study.counts, some_byte(rng)]
+    return bytes([kind] + [rng.choice(near) for _ in range(BODY_LENGTH[kind])])
+
+
+def with_records_damaged(rng, study):
+    """A record put in, put in another's place, left out, doubled, or exchanged with another; perhaps the rest cut off."""
+    records = records_of(study)
+    at = rng.randrange(len(records))
+    way = rng.randrange(6)
+    if way == 0:
+        records.insert(at, telling_record(rng, study))
+    elif way == 1:
+        records[at] = telling_record(rng, study)
+    elif way == 2:
+        del records[at]
+    elif way == 3:
+        records.insert(rng.randint(0, len(records)), records[at])
+    elif way == 4:
+        other = rng.randrange(len(records))
+        records[at], records[other] = records[other], records[at]
+    else:
+        records[at:] = [telling_record(rng, study)]
+        records[at] = records[at][: rng.randint(1, len(records[at]))]
+    return b"".join(records)
+
+
+def with_named_fault(rng, study):
+    """One of the faults that documents name: in values, order of conditions, own variable, repeated post, task or seed."""
+    way = rng.randrange(8)
+    if way == 0:
+        study.seed = rng.choice(BAD_SEEDS)
+    elif way == 1:
+        study.counts[rng.randrange(len(study.counts))] = rng.choice([0, 1, 17, 255])
+    elif way == 2:
+        study.tasks = rng.choice([study.tasks[:-1], study.tasks + [(0, 0)]])
+    elif way == 3:
+        v = rng.randrange(len(study.counts))
+        study.tasks[v] = rng.choice([(study.counts[v], 0), (0, study.counts[v])])
+    elif study.actions:
+        action = rng.choice(study.actions)
+        if way == 4:
+            action.conditions.reverse()
+        elif way == 5:
+            action.conditions.append((action.variable, rng.choice([action.pre, study.counts[action.variable]])))
+        elif way == 6:
+            twin = replace(action, pre=rng.randrange(study.counts[action.variable]), conditions=[])
+            study.actions.insert(rng.randint(0, len(study.actions)), twin)
+        else:
+            action.pre = rng.choice([action.post, study.counts[action.variable]])
+    return file_of(study)
+
+
+def beyond_limits(rng):
+    """A 33rd variable or a 257th action, whole or cut, faulty otherwise or not; or a longest file with a byte more."""
+    way = rng.randrange(4)
+    if way == 0:
+        head = bytes([VARIABLE, 2]) * 32
+        return head + rng.choice([b"\x01", b"\x01\x00", b"\x01\x02", b"\x01\x11", b"\x04\x00\x00", b"\x07", b""])
+    if way == 1:
+        study = whole_circles(rng)
+        records = records_of(replace(study, counts=study.counts + [2], tasks=study.tasks + [(0, 1)]))
+        more = rng.choice([[16, 0, 1], [0, 0, 1], [17, 0, 1], [16, 1, 1], [16, 2, 0], [16, 0], []])
+        rest = records[17 + 256 :] if len(more) == 3 else []
+        return b"".join(records[: 17 + 256]) + bytes([ACTION, *more]) + b"".join(rest)
+    if way == 2:
+        study = one_action_each(rng)
+        action = rng.choice(study.actions)
+        action.conditions.append(rng.choice([(31, 1), (32, 0), (action.variable, 1), (0, 2)]))
+        return file_of(study)
+    return file_of(longest(rng)) + bytes([some_byte(rng)])
+
+
+def damaged_file(rng):
+    way = rng.random()
+    if way < 0.02:
+        return bytes(some_byte(rng) for _ in range(rng.randint(0, 12)))
+    if way < 0.4:
+        file = file_of(small_study(rng))
+        for _ in range(rng.choice([1, 1, 2])):
+            file = rng.choice(BYTE_DAMAGE)(rng, file) if file else file
+        return file
+    if way < 0.75:
+        return with_records_damaged(rng, small_study(rng))
+    return with_named_fault(rng, small_study(rng))
+
+
+# ---------------------------------------------------------------------------------------------------------------------
+# Other inputs: buffers, rank lists, lists to run, seeds and counts
+
+
+def some_buffer(rng, needed):
+    """A buffer of any bytes: too short, just long enough, longer."""
+    length = rng.choice([needed, needed, needed + 1, needed + rng.randint(2, 9), 256, 300, max(needed - 1, 0), 0])
+    return rng.randbytes(length)
+
+
+def room_enough(rng, needed):
+    return rng.randbytes(needed + rng.choice([0, 0, 1, 4, 20]))
+
+
+def rank_list(rng, count):
+    ranks = list(range(count))
+    way = rng.random()
+    if way < 0.1:
+        ranks.reverse()
+    elif way < 0.9:
+        rng.shuffle(ranks)
+    return bytes(ranks)
+
+
+def bad_rank_list(rng, count):
+    """Of wrong length, with an entry that is too large, with an entry repeated, or with several of these."""
+    ranks = list(rank_list(rng, count))
+    way = rng.randrange(4)
+    if way == 0 or not ranks:
+        length = rng.choice([0, max(count - 1, 0), count + 1, count + 2, 255, 256, 257, 300])
+        return bytes((ranks + [rng.randrange(256) for _ in range(300)])[:length])
+    for _ in range(rng.choice([1, 1, 2])):
+        index = rng.randrange(count)
+        ranks[index] = rng.choice([rng.randrange(count), min(count, 255), 255])
+    if way == 1:
+        ranks.append(rng.randrange(256))
+    return bytes(ranks)
+
+
+def steps_that_run(rng, study):
+    """A straight plan if there is one, else nothing."""
+    try:
+        return list(planned_by_walks(study, rank_list(rng, len(study.actions))))
+    except Refused:
+        return []
+
+
+def steps_at_random(rng, study):
+    """Actions that may be done one after another, whether a value was held before or not; perhaps, at the end, one that
+    only its conditions bar."""
+    state = start_state(study)
+    steps = []
+    for _ in range(rng.randint(0, 8)):
+        ready = [number for number, action in enumerate(study.actions) if may_be_done(state, action)]
+        if not ready:
+            break
+        steps.append(rng.choice(ready))
+        state = done(state, study.actions[steps[-1]])
+    barred = [number for number, a in enumerate(study.actions) if state[a.variable] == a.pre and not may_be_done(state, a)]
+    if barred and rng.random() < 0.4:
+        steps.append(rng.choice(barred))
+    return steps
+
+
+def some_steps(rng, study):
+    """A list to run: a straight plan, a part of one, one with changes, a list at random."""
+    count = len(study.actions)
+    steps = steps_that_run(rng, study)
+    way = rng.randrange(10)
+    if way < 3:
+        return bytes(steps)
+    if way < 4:
+        return bytes(steps[: rng.randint(0, len(steps))])
+    if way < 7:
+        steps = steps_at_random(rng, study)
+    entry = rng.choice([rng.randrange(count + 1), min(count, 255), 255, rng.randrange(256)])
+    change = rng.randrange(5)
+    if change == 0:
+        steps.insert(rng.randint(0, len(steps)), min(entry, 255))
+    elif change == 1 and steps:
+        steps[rng.randrange(len(steps))] = min(entry, 255)
+    elif change == 2 and len(steps) > 1:
+        rng.shuffle(steps)
+    elif change == 3:
+        steps += steps
+    return bytes(steps)
+
+
+DRAW_SEEDS = [0, 1, 2, LARGEST_SEED, 2147483647, 2**32, 2**64 - 1]
+DRAW_COUNTS = [0, 1, 2, 255, 256, 257, 2**64 - 1]
+
+
+def draw_edges():
+    """Seeds, counts and buffer lengths at every edge."""
+    edges = []
+    for seed, count in itertools.product(DRAW_SEEDS, DRAW_COUNTS):
+        lengths = {0, 300} | ({count - 1, count, count + 1} if 1 <= count <= 257 else set())
+        edges += [(seed, count, length) for length in sorted(lengths)]
+    return edges
+
+
+# ---------------------------------------------------------------------------------------------------------------------
+# Calls
+
+
+def call_on(rng, name, study, file):
+    """A call on a file; the study is what its other inputs are made for."""
+    count, variables = len(study.actions), len(study.counts)
+    if name == "record_at":
+        inside = rng.randint(0, max(len(file) - 1, 0))
+        edges = [0, max(len(file) - 1, 0), len(file), len(file) + rng.randint(1, 3), 2**32, 2**64 - 1]
+        return name, (file, inside if rng.random() < 0.7 else rng.choice(edges))
+    if name == "check":
+        return name, (file,)
+    if name == "plan":
+        ranks = bad_rank_list(rng, count) if rng.random() < 0.2 else rank_list(rng, count)
+        needed = len(steps_that_run(rng, study))
+        return name, (file, ranks, rng.choice([some_buffer, room_enough])(rng, needed))
+    if name == "plan_seeded":
+        needed = len(steps_that_run(rng, study))
+        return name, (file, rng.choice([some_buffer, room_enough])(rng, needed))
+    buffer = room_enough(rng, variables) if rng.random() < 0.85 else some_buffer(rng, variables)
+    return name, (file, some_steps(rng, study), buffer)
+
+
+def call_on_small(rng):
+    study = small_study(rng)
+    name = rng.choices(["record_at", "check", "plan", "plan_seeded", "run"], [1, 1, 5, 2, 4])[0]
+    return call_on(rng, name, study, file_of(study))
+
+
+def call_on_middling(rng):
+    study = middling(rng)
+    name = rng.choice(["check", "plan", "plan", "plan_seeded", "run"])
+    return call_on(rng, name, study, file_of(study))
+
+
+def call_on_large(rng):
+    study = large_study(rng)
+    name = rng.choice(["record_at", "check", "plan", "plan", "plan_seeded", "plan_seeded", "run", "run"])
+    return call_on(rng, name, study, file_of(study))
+
+
+def call_on_damaged(rng):
+    """The other inputs are for a study that is often not the file's, so that they are faulty too."""
+    name = rng.choices(["record_at", "check", "plan", "plan_seeded", "run"], [3, 8, 1, 1, 1])[0]
+    return call_on(rng, name, small_study(rng), damaged_file(rng))
+
+
+def call_beyond_limits(rng):
+    name = rng.choices(["record_at", "check", "plan", "plan_seeded", "run"], [1, 6, 2, 2, 2])[0]
+    return call_on(rng, name, small_study(rng), beyond_limits(rng))
+
+
+def call_draw(rng, edges):
+    if rng.random() < 0.6:
+        seed, count, length = next(edges)
+        return "draw", (seed, count, rng.randbytes(length))
+    seed = rng.choice([rng.randint(1, LARGEST_SEED), rng.randrange(2**64), rng.choice(DRAW_SEEDS)])
+    count = rng.choice([rng.randint(0, 12), rng.randint(0, 260), rng.randrange(2**64)])
+    return "draw", (seed, count, some_buffer(rng, min(count, 260)))
+
+
+def calls(seed, n):
+    """Yields n calls as (name, inputs), of all kinds, the same for the same seed and n. Of 1,000 calls some 8 are on files
+    at the limits. Every edge of draw_edges() is met within some 4,000 calls."""
+    rng = random.Random(seed)
+    edges = itertools.cycle(draw_edges())
+    makers = [
+        (520, call_on_small),
+        (25, call_on_middling),
+        (8, call_on_large),
+        (325, call_on_damaged),
+        (12, call_beyond_limits),
+        (110, lambda rng: call_draw(rng, edges)),
+    ]
+    weights = [weight for weight, _ in makers]
+    for _ in range(n):
+        _, maker = rng.choices(makers, weights)[0]
+        yield maker(rng)
+
+
+# ---------------------------------------------------------------------------------------------------------------------
+# Self-test
+
+PORTER = bytes.fromhex(
+    "01 02 01 03 01 02 02 00 00 01 02 01 00 01 02 01 01 02 03 00 01 03 02 01 02 02 00 01 03 00 01 03 01 01 02 00 01 00"
+    " 04 00 00 01 04 01 00 02 04 02 00 01 05 00 00 00 01 06"
+)
+PORTER_PRINTED = "plan 4\n0 1 1 0 1\n1 0 0 0 1\n2 3 2 0 1\n3 2 1 1 2\n"
+
+
+def porter(goal, start=(0, 0, 0)):
+    """The porter file with another goal, and perhaps another start."""
+    return file_of(replace(read(PORTER), tasks=list(zip(start, goal))))
+
+
+def horse_breeder():
+    """Table 1 of source 004, actions numbered from 0: haystack, bucket, water."""
+    actions = [
+        Action(0, 1, 0),
+        Action(0, 0, 1, [(1, 0)]),
+        Action(0, 1, 2),
+        Action(1, 1, 0),
+        Action(1, 0, 1, [(0, 0)]),
+        Action(2, 0, 1, [(1, 1)]),
+        Action(2, 1, 2, [(1, 1)]),
+    ]
+    return file_of(Study([3, 2, 3], actions, [(0, 2), (0, 0), (0, 2)], 1))
+
+
+def two_wanting(value, more=False):
+    """Case 13: two variables, each action wanting the other variable at a value; perhaps a free third."""
+    actions = [Action(0, 0, 1, [(1, value)]), Action(1, 0, 1, [(0, value)])] + [Action(2, 0, 1)] * more
+    variables = 2 + more
+    return file_of(Study([2] * variables, actions, [(0, 1)] * variables, 1))
+
+
+def coming_round():
+    """Case 14."""
+    return file_of(Study([3], [Action(0, 1, 2), Action(0, 2, 1)], [(0, 2)], 1))
+
+
+def worked_cases():
+    """Document 01's worked cases: (case, name, inputs, numbers, first bytes of the buffer). The buffers hold 170s."""
+    room = b"\xaa" * 8
+    rising = bytes(range(5))
+    bytes_of = lambda *entries: bytes(entries)
+    in_order = bytes_of(0, 1, 3, 2)
+    yield 1, "draw", (1, 3, room), (0, 282475249, 0), bytes_of(0, 2, 1)
+    yield 2, "draw", (1, 5, room), (0, drawn(1, 5)[1], 0), bytes_of(3, 0, 4, 1, 2)
+    yield 3, "plan", (PORTER, rising, room), (0, 4, 0), in_order
+    yield 4, "plan", (PORTER, bytes_of(3, 0, 4, 1, 2), room), (0, 4, 0), bytes_of(1, 0, 3, 2)
+    yield 4, "plan_seeded", (PORTER, room), (0, 4, 0), bytes_of(1, 0, 3, 2)
+    yield 5, "plan", (porter((0, 0, 0)), rising, room), (0, 0, 0), b""
+    yield 6, "plan", (porter((0, 2, 1)), rising, room), (11, 2, 0), b""
+    yield 7, "plan", (porter((1, 2, 0)), rising, room), (11, 2, 2), b""
+    yield 8, "plan", (porter((1, 1, 1)), rising, room), (0, 3, 0), bytes_of(0, 1, 3)
+    yield 9, "plan", (porter((1, 0, 1), (0, 2, 0)), rising, room), (10, 1, 0), b""
+    yield 10, "plan", (PORTER, rising, room[:3]), (13, 4, 0), b""
+    yield 10, "plan", (PORTER, rising, room[:4]), (0, 4, 0), in_order
+    yield 11, "plan", (PORTER, bytes_of(0, 1, 1, 3, 4), room), (9, 2, 0), b""
+    yield 11, "plan", (PORTER, rising[:4], room), (9, 4, 1), b""
+    yield 12, "run", (PORTER, in_order, room), (0, 3, 0), bytes_of(1, 2, 1)
+    yield 12, "run", (PORTER, bytes_of(1, 3), room), (15, 1, 0), b""
+    yield 12, "run", (PORTER, bytes_of(0, 4), room), (16, 1, 0), b""
+    yield 12, "run", (PORTER, b"", room), (17, 0, 0), b""
+    yield 13, "plan", (two_wanting(1), bytes_of(0, 1), room), (12, 0, 0), b""
+    yield 13, "plan", (two_wanting(0), bytes_of(0, 1), room), (12, 0, 0), b""
+    yield 13, "plan", (two_wanting(1, more=True), bytes_of(0, 1, 2), room), (12, 1, 0), b""
+    yield 13, "plan", (two_wanting(0, more=True), bytes_of(0, 1, 2), room), (12, 1, 0), b""
+    yield 14, "plan", (coming_round(), bytes_of(0, 1), room), (10, 0, 0), b""
+    yield 15, "plan", (horse_breeder(), bytes(range(7)), room), (11, 5, 1), b""
+    yield 16, "check", (PORTER,), (0, 5, 3), b""
+    yield 16, "check", (PORTER[:51] + bytes(4) + PORTER[55:],), (5, 50, 0), b""
+    yield 16, "check", (PORTER[:55],), (1, 55, 0), b""
+    yield 16, "check", (PORTER[:54],), (1, 50, 0), b""
+    yield 16, "check", (PORTER + b"\0",), (8, 56, 0), b""
+    yield 17, "draw", (2147483646, 1, room), (0, 2147483646, 0), b"\0"
+    yield 17, "draw", (2147483647, 1, room), (18, 2147483647, 0), b""
+    yield 17, "draw", (1, 256, bytes(256)), (0, drawn(1, 256)[1], 0), bytes(drawn(1, 256)[0])
+    yield 17, "draw", (1, 257, bytes(300)), (19, 257, 0), b""
+
+
+def test_worked_cases():
+    met = set()
+    for case, name, inputs, numbers, first_bytes in worked_cases():
+        buffer = inputs[-1] if name in ("plan", "plan_seeded", "run", "draw") else b""
+        expected = numbers, first_bytes + buffer[len(first_bytes) :]
+        given = answer(name, inputs)
+        assert given == expected, f"case {case}: {name} answers {given} and not {expected}"
+        met.add(case)
+    assert met == set(range(1, 18))
+    assert set(straight_plans(read(PORTER), 1000)) == {(0, 1, 3, 2), (1, 0, 3, 2)}, "case 4: there is no third plan"
+    assert sorted(drawn(1, 256)[0]) == list(range(256))
+    last = 1
+    for _ in range(10000):
+        last = next_number(last)
+    assert last == 1043618065, "the 10,000th number from seed 1"
+    assert drawn(7, 0) == ([], 7) and drawn(7, 1) == ([0], 7)
+    assert len(PORTER) == 56 and check(b"") == ((1, 0, 0), b"")
+    assert printed(PORTER) == PORTER_PRINTED
+    assert printed(PORTER + bytes(30000)) == "refused 8 56 0\n"
+    return "document 01's worked cases 1 to 17, the generator's check number and the porter's print: agreed"
+
+
+def file_cases():
+    """Files worked by hand, in hexadecimal, and what checking them answers: each fault, and which of two comes first."""
+    one, two, three_values = "0102", "0102 0102", "0103 0102 0102"
+    go = "02000001"  # variable 0 from 0 to 1
+    rest = "04000001 04010001 0500000001 06"
+    crowd = "0102" * 32
+    yield "", (1, 0, 0)
+    yield "00", (2, 0, 0)
+    yield "07", (2, 0, 0)
+    for kind in ("02", "03", "04", "05", "06"):
+        yield kind, (3, 0, 0)  # cut, or an end: 3 comes before 1
+    yield "01", (1, 0, 0)
+    yield "0101", (5, 0, 0)
+    yield "0111", (5, 0, 0)
+    yield "0110", (1, 2, 0)
+    yield one + "ff", (2, 2, 0)
+    yield one + "03", (3, 2, 0)  # a condition before any action
+    yield one + "05", (3, 2, 0)  # a seed before the task
+    yield one + "06", (3, 2, 0)
+    yield one + "020000", (1, 2, 0)
+    yield one + "02010001", (5, 2, 0)  # no such variable
+    yield one + "02000201", (5, 2, 0)  # pre too large
+    yield one + "02000002", (5, 2, 0)  # post too large
+    yield one + "02000202", (5, 2, 0)  # .. and equal: 5 comes before 6
+    yield one + "02000101", (6, 2, 0)
+    yield one + go + "0102", (3, 6, 0)  # a variable after an action
+    yield one + go + go, (7, 6, 0)
+    yield one + go + "02000101", (6, 6, 0)  # pre equals a repeated post: 6 comes before 7
+    yield three_values + go + "02000201", (7, 10, 0)  # from another pre
+    yield two + go + "030100 030100", (6, 11, 0)  # the same variable again
+    yield two + go + "030000", (6, 8, 0)  # its own variable
+    yield two + go + "030002", (5, 8, 0)  # .. with a value too large
+    yield two + go + "030102", (5, 8, 0)
+    yield two + go + "030200", (5, 8, 0)
+    yield three_values + go + "030201 030101", (6, 13, 0)  # not above the previous
+    yield three_values + go + "030101 030201 04000002", (1, 20, 0)
+    yield two + go + "0301", (1, 8, 0)
+    yield two + "04010001", (5, 4, 0)  # not the next variable
+    yield two + "04000001 04000001", (5, 8, 0)
+    yield two + "04000201", (5, 4, 0)
+    yield two + "04000002", (5, 4, 0)
+    yield two + "04000001" + go, (3, 8, 0)  # an action after a task
+    yield two + "04000001 0500000001", (3, 8, 0)  # a seed before the last task
+    yield two + "04000001 04010001 04020001", (3, 12, 0)  # a task too many
+    yield two + "04000001 04010001 04", (3, 12, 0)
+    yield two + "04000001 04010001", (1, 12, 0)
+    yield two + "04000001 04010001 06", (3, 12, 0)  # no seed
+    for seed in ("00000000", "7fffffff", "80000000", "ffffffff"):
+        yield two + "04000001 04010001 05" + seed + "06", (5, 12, 0)
+    yield two + "04000001 04010001 057ffffffe 06", (0, 0, 2)
+    yield two + "04000001 04010001 0500000001 0500000001", (3, 17, 0)
+    yield two + "04000001 04010001 0500000001", (1, 17, 0)
+    yield two + rest, (0, 0, 2)
+    yield two + go + rest, (0, 1, 2)
+    yield two + rest + "06", (8, 18, 0)
+    yield two + rest + "ff00", (8, 18, 0)
+    yield crowd + "01", (1, 64, 0)
+    yield crowd + "0102", (4, 64, 0)
+    yield crowd + "0100", (4, 64, 0)  # 4 comes before 5
+    yield crowd + "02200001", (5, 64, 0)
+
+
+def crowded_with_actions():
+    """16 variables of 16 values with an action for each value, and a variable more; 1,058 bytes."""
+    return bytes([VARIABLE, 16]) * 17 + bytes(
+        byte for v in range(16) for q in range(16) for byte in (ACTION, v, (q + 1) % 16, q)
+    )
+
+
+def test_file_cases():
+    cases = list(file_cases())
+    for digits, numbers in cases:
+        given = check(bytes.fromhex(digits))[0]
+        assert given == numbers, f"file {digits}: {given} and not {numbers}"
+    crowded = crowded_with_actions()
+    assert len(crowded) == 1058
+    for more, number in ((b"\2\x10\0\1", 4), (b"\2\x11\0\1", 4), (b"\2\0\0\0", 4), (b"\2\0\0", 1), (b"\1\2", 3)):
+        assert check(crowded + more)[0] == (number, 1058, 0), more
+    odd = bytes([9, 1, 2, 0, 6, 5, 0, 0, 0])
+    places = {
+        0: (2, 0, 0, 0, 0),
+        1: (0, 1, 2, 1, 3),
+        2: (0, 2, 3, 3, 6),
+        3: (2, 0, 3, 0, 3),
+        4: (0, 6, 5, 0, 5),
+        5: (1, 0, 5, 0, 5),
+        8: (2, 0, 8, 0, 8),
+        9: (1, 0, 9, 0, 9),
+        10: (1, 0, 9, 0, 9),
+        2**64 - 1: (1, 0, 9, 0, 9),
+    }
+    for at, numbers in places.items():
+        assert record_at(odd, at) == (numbers, b""), at
+    return f"{len(cases)} files worked by hand, and single records: agreed"
+
+
+def circles(pairs):
+    """The actions on some circle, found by following every path that meets no action twice."""
+    after = {}
+    for a, b in pairs:
+        after.setdefault(a, []).append(b)
+
+    def leads_back(start, here, passed):
+        return any(b == start or (b not in passed and leads_back(start, b, passed | {b})) for b in after.get(here, []))
+
+    return {a for a in after if leads_back(a, a, {a})}
+
+
+def test_rings_of(study):
+    """Rings by the closure against rings by circles, and who comes after one against who can be reached from one."""
+    walks = [walk_of(study, v) for v in range(len(study.counts))]
+    if None in walks or off_walk_condition(study, walks):
+        return
+    pairs = comes_before(study, walks)
+    after = closure(pairs, walk_actions(walks))
+    reached = circles(pairs)
+    assert on_rings(after) == reached, study
+    while any(a in reached and b not in reached for a, b in pairs):
+        reached |= {b for a, b in pairs if a in reached}
+    assert free_of_rings(after) == set(after) - reached, study
+
+
+def test_runs_of(rng, study, plans):
+    """Running answers 0 exactly for straight plans, and then the goal is the end state."""
+    file, room = file_of(study), bytes(len(study.counts))
+    for steps in [some_steps(rng, study) for _ in range(3)] + plans[:3]:
+        numbers, buffer = run(file, bytes(steps), room)
+        assert (numbers[0] == 0) == (tuple(steps) in plans), (study, steps)
+        assert buffer == (room if numbers[0] else bytes(goal_state(study)))
+
+
+def test_both_ways(seed, files):
+    """Both ways of planning on small files, with several rank lists each; `planned` asserts that they agree."""
+    rng = random.Random(seed)
+    seen, several, skipped = Counter(), 0, 0
+    for _ in range(files):
+        study = small_study(rng)
+        assert read(file_of(study)) == replace(study, ended=True), "a generator's study does not load"
+        try:
+            plans = straight_plans(study, 4000)
+        except TooMany:
+            skipped += 1
+            continue
+        several += len(plans) > 1
+        for _ in range(3):
+            ranks = rank_list(rng, len(study.actions))
+            try:
+                planned(study, ranks, 4000)
+                number = 0
+            except Refused as refused:
+                number = refused.numbers[0]
+        seen[number] += 1
+        test_runs_of(rng, study, plans)
+        test_rings_of(study)
+    assert all(seen[number] > files // 50 for number in (0, 10, 11, 12)), seen
+    tally = ", ".join(f"{number}: {seen[number]}" for number in sorted(seen))
+    return (
+        f"{files - skipped} random small files through both ways of planning, every list tried: agreed"
+        f" ({tally}; {several} with several straight plans; {skipped} more had too many lists)"
+    )
+
+
+ANSWERS_TO_MEET = {
+    "record_at": {0, 1, 2},
+    "check": set(range(9)),
+    "plan": set(range(14)),
+    "plan_seeded": set(range(14)) - {9},
+    "run": set(range(9)) | {13, 14, 15, 16, 17},
+    "draw": {0, 13, 18, 19},
+}
+
+
+def test_calls(seed, n):
+    """Every call can be answered; a refusal alters nothing; each call meets each of its answers, and all limits are met."""
+    seen = {name: Counter() for name in CALLS}
+    longest_file = longest_plan = 0
+    drawn_edges = set()
+    for name, inputs in calls(seed, n):
+        numbers, buffer = answer(name, inputs)
+        seen[name][numbers[0]] += 1
+        if name in ("plan", "plan_seeded", "run", "draw"):
+            assert len(buffer) == len(inputs[-1]) and (numbers[0] == 0 or buffer == inputs[-1])
+        if name == "draw":
+            drawn_edges.add((inputs[0], inputs[1], len(inputs[2])))
+        elif name != "record_at" and numbers[0] == 0:
+            longest_file = max(longest_file, len(inputs[0]))
+        if name in ("plan", "plan_seeded") and numbers[0] == 0:
+            longest_plan = max(longest_plan, numbers[1])
+    for name, numbers in ANSWERS_TO_MEET.items():
+        assert set(seen[name]) == numbers, f"{name} met {sorted(seen[name])} and not {sorted(numbers)}"
+    assert set(draw_edges()) <= drawn_edges
+    assert (longest_file, longest_plan) == (LONGEST_FILE, 256), (longest_file, longest_plan)
+    assert list(calls(seed, 300)) == list(calls(seed, 300))
+    lines = [f"{n} calls answered, each answer of each call met, a file of {longest_file} bytes and a plan of 256 steps too"]
+    for name in CALLS:
+        tally = ", ".join(f"{number}: {seen[name][number]}" for number in sorted(seen[name]))
+        lines.append(f"  {name} {sum(seen[name].values())} ({tally})")
+    return "\n".join(lines)
+
+
+def test_limits(seed):
+    """The studies at the limits load and are what their names say."""
+    rng = random.Random(seed)
+    answers = {
+        longest: (0, 256, 0),
+        longest_at_rest: (0, 0, 0),
+        most_steps: (0, 256, 0),
+        one_action_each: (0, 32, 0),
+    }
+    for maker in dict.fromkeys(LARGE):
+        file = file_of(maker(rng))
+        assert check(file)[0][0] == 0, maker
+        numbers, buffer = plan_seeded(file, bytes(256))
+        assert numbers == answers.get(maker, numbers), (maker, numbers)
+        if maker.__name__.startswith("longest"):
+            assert len(file) == LONGEST_FILE, (maker, len(file))
+        if numbers[0] == 0:
+            assert run(file, buffer[: numbers[1]], bytes(32))[0][0] == 0, maker
+    for maker, number in ((longest_without_walk, 10), (longest_off_walk, 11), (longest_with_ring, 12)):
+        assert plan_seeded(file_of(maker(rng)), bytes(256))[0][0] == number, maker
+    return "studies at the limits: as their names say"
+
+
+def self_test():
+    begun = time.monotonic()
+    tests = [
+        (test_worked_cases, ()),
+        (test_file_cases, ()),
+        (test_limits, (1,)),
+        (test_both_ways, (1, 5000)),
+        (test_calls, (1, 20000)),
+    ]
+    for test, inputs in tests:
+        started = time.monotonic()
+        said = test(*inputs)
+        print(f"{said} [{time.monotonic() - started:.1f} s]", flush=True)
+    print(f"self-test passed in {time.monotonic() - begun:.1f} s")
+
+
+if __name__ == "__main__":
+    if sys.argv[1:] != ["--self-test"]:
+        sys.exit("usage: python3 tests/oracle.py --self-test")
+    self_test()
