@@ -155,7 +155,7 @@ pub(crate) fn step(
         (now (starts .exit)) (now (goals .exit))) r) ⌝ }
 {
     let at = p.at;
-    let found = records::record_at(file, at);
+    let found = reader::record_from(file, at);
     let Found::There { kind, start, next } = found else {
         return not_there(p, found);
     };

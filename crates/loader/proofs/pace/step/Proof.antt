@@ -16,7 +16,7 @@ use Rattle.loader.proofs.pace.step.Lts as lts
 use Rattle.loader.proofs.order.may_follow.Reads as may-follow-reads
 use Rattle.loader.proofs.pace.not_there.Reads as not-there-reads
 use Rattle.loader.proofs.pace.take.Reads as take-reads
-use Rattle.records.proofs.record_at.Reads as record-at-reads
+use Rattle.reader.proofs.record_from.Reads as record-from-reads
 
 abbrev held : tie.Start → Tables
 held s =
@@ -28,10 +28,10 @@ is-there :
     (c : tie.After-found)
     → recordAt (now (c .before .before .before .before .args .file)) (c .before .before .before .before .args .p .at)
     ≡ There (c .found .given .0 .0) (c .found .given .0 .1 .0) (c .found .given .0 .1 .1 .0)
-is-there c = sym (c .before .before .record-at .ensures) ∙ c .found .given .1
+is-there c = sym (c .before .before .record-from .ensures) ∙ c .found .given .1
 
-record-at-requires : tie.Need-record-at-requires
-record-at-requires c κs = search needs
+record-from-requires : tie.Need-record-from-requires
+record-from-requires c κs = search needs
 
 enum-known-found : tie.Need-enum-known-found
 enum-known-found c = search needs
@@ -42,7 +42,7 @@ not-there-requires c κs = search needs
 returns : tie.Need-returns
 returns c =
     let s = c .before .before .before .before in
-    rw (c .not-there .ensures) (not-there-arm (now (s .args .file)) (s .args .p) (held s) _ (sym (c .before .before .record-at .ensures)) (c .before .match .keys2))
+    rw (c .not-there .ensures) (not-there-arm (now (s .args .file)) (s .args .p) (held s) _ (sym (c .before .before .record-from .ensures)) (c .before .match .keys2))
 
 may-follow-requires : tie.Need-may-follow-requires
 may-follow-requires c κs = search needs
@@ -65,7 +65,7 @@ pub step-spec : {M : Type 1} → statement M
 step-spec =
     tie.close
     (tie.spec
-    record-at-requires
+    record-from-requires
     enum-known-found
     not-there-requires
     returns

@@ -1,0 +1,4 @@
+pub mod Laws
+mod Calls
+mod Held
+mod Thin
