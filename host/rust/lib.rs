@@ -1,0 +1,201 @@
+//! Marrowkite for a host in Rust: the library's calls, safe. `include/marrowkite.h` says what each number means and how
+//! much stack each call takes; `docs/HOST.md` how to link.
+//!
+//! A call keeps nothing, so any number of threads may call at once. Borrowed slices are all that the library asks of its
+//! caller: no pointer is null, and the buffer that is lent for writing overlaps nothing else.
+
+#![no_std]
+
+/// What a call answers. Number 0: done. With any other number the buffer is as it was.
+#[repr(C)]
+#[derive(Clone, Copy, Debug, PartialEq, Eq)]
+pub struct Answer {
+    pub number: u64,
+    pub first: u64,
+    pub second: u64,
+}
+
+/// One record of a file. Number 0: the body is `file[start..start + len]`, and the next record is at `next`.
+#[repr(C)]
+#[derive(Clone, Copy, Debug, PartialEq, Eq)]
+pub struct Record {
+    pub number: u64,
+    pub kind: u64,
+    pub start: u64,
+    pub len: u64,
+    pub next: u64,
+}
+
+mod exported {
+    use super::{Answer, Record};
+
+    #[link(name = "marrowkite", kind = "static")]
+    extern "C" {
+        pub fn marrowkite_check(file: *const u8, file_len: usize) -> Answer;
+        pub fn marrowkite_plan(
+            file: *const u8,
+            file_len: usize,
+            ranks: *const u8,
+            ranks_len: usize,
+            plan: *mut u8,
+            plan_len: usize,
+        ) -> Answer;
+        pub fn marrowkite_plan_seeded(
+            file: *const u8,
+            file_len: usize,
+            plan: *mut u8,
+            plan_len: usize,
+        ) -> Answer;
+        pub fn marrowkite_run(
+            file: *const u8,
+            file_len: usize,
+            plan: *const u8,
+            plan_len: usize,
+            state: *mut u8,
+            state_len: usize,
+        ) -> Answer;
+        pub fn marrowkite_draw(seed: u64, count: u64, ranks: *mut u8, ranks_len: usize) -> Answer;
+        pub fn marrowkite_record_at(file: *const u8, file_len: usize, at: u64) -> Record;
+    }
+}
+
+/// Checks a file: 1 to 8. Done: first is how many actions it has, second how many variables.
+pub fn check(file: &[u8]) -> Answer {
+    // SAFETY: here and below, pointer and length are those of a slice, which outlives the call.
+    unsafe { exported::marrowkite_check(file.as_ptr(), file.len()) }
+}
+
+/// Plans with a rank list: 1 to 8, then 9, 10, 11, 12, 13. Done: the plan is `plan[..first]`.
+pub fn plan(file: &[u8], ranks: &[u8], plan: &mut [u8]) -> Answer {
+    unsafe {
+        exported::marrowkite_plan(
+            file.as_ptr(),
+            file.len(),
+            ranks.as_ptr(),
+            ranks.len(),
+            plan.as_mut_ptr(),
+            plan.len(),
+        )
+    }
+}
+
+/// Plans with the rank list that the file's seed draws: as `plan`, without 9.
+pub fn plan_seeded(file: &[u8], plan: &mut [u8]) -> Answer {
+    unsafe {
+        exported::marrowkite_plan_seeded(file.as_ptr(), file.len(), plan.as_mut_ptr(), plan.len())
+    }
+}
+
+/// Runs a plan: 1 to 8, then 13, then step by step 14, 15, 16, then 17. Done: the end state is `state[..first]`.
+pub fn run(file: &[u8], plan: &[u8], state: &mut [u8]) -> Answer {
+    unsafe {
+        exported::marrowkite_run(
+            file.as_ptr(),
+            file.len(),
+            plan.as_ptr(),
+            plan.len(),
+            state.as_mut_ptr(),
+            state.len(),
+        )
+    }
+}
+
+/// Draws a rank list from a seed: 18, 19, 13. Done: the list is `ranks[..count]`, first the generator's last number.
+pub fn draw(seed: u64, count: u64, ranks: &mut [u8]) -> Answer {
+    unsafe { exported::marrowkite_draw(seed, count, ranks.as_mut_ptr(), ranks.len()) }
+}
+
+/// The record at a place: number 0, or 2 or 1 with kind and len 0 and the place as start and next.
+pub fn record_at(file: &[u8], at: u64) -> Record {
+    unsafe { exported::marrowkite_record_at(file.as_ptr(), file.len(), at) }
+}
+
+#[cfg(test)]
+mod tests {
+    extern crate std;
+    use super::*;
+
+    const PORTER: [u8; 56] = [
+        1, 2, 1, 3, 1, 2, 2, 0, 0, 1, 2, 1, 0, 1, 2, 1, 1, 2, 3, 0, 1, 3, 2, 1, 2, 2, 0, 1, 3, 0,
+        1, 3, 1, 1, 2, 0, 1, 0, 4, 0, 0, 1, 4, 1, 0, 2, 4, 2, 0, 1, 5, 0, 0, 0, 1, 6,
+    ];
+
+    fn answer(number: u64, first: u64, second: u64) -> Answer {
+        Answer {
+            number,
+            first,
+            second,
+        }
+    }
+
+    fn draws_plans_and_runs() {
+        let (mut ranks, mut steps, mut state) = ([0xaa; 5], [0xaa; 6], [0xaa; 4]);
+        assert_eq!(check(&PORTER), answer(0, 5, 3));
+        assert_eq!(draw(1, 5, &mut ranks), answer(0, 984943658, 0));
+        assert_eq!(ranks, [3, 0, 4, 1, 2]);
+        assert_eq!(plan(&PORTER, &ranks, &mut steps), answer(0, 4, 0));
+        assert_eq!(steps, [1, 0, 3, 2, 0xaa, 0xaa]);
+        assert_eq!(run(&PORTER, &steps[..4], &mut state), answer(0, 3, 0));
+        assert_eq!(state, [1, 2, 1, 0xaa]);
+        let mut seeded = [0xaa; 4];
+        assert_eq!(plan_seeded(&PORTER, &mut seeded), answer(0, 4, 0));
+        assert_eq!(seeded, steps[..4]);
+    }
+
+    #[test]
+    fn the_porter_gets_a_plan() {
+        draws_plans_and_runs();
+    }
+
+    #[test]
+    fn a_refused_call_alters_nothing() {
+        let mut buffer = [0xaa; 3];
+        assert_eq!(
+            plan(&PORTER, &[0, 1, 2, 3, 4], &mut buffer),
+            answer(13, 4, 0)
+        );
+        assert_eq!(plan_seeded(&PORTER[..55], &mut buffer), answer(1, 55, 0));
+        assert_eq!(run(&PORTER, &[], &mut buffer), answer(17, 0, 0));
+        assert_eq!(draw(0, 3, &mut buffer), answer(18, 0, 0));
+        assert_eq!(buffer, [0xaa; 3]);
+    }
+
+    #[test]
+    fn empty_slices() {
+        assert_eq!(check(&[]), answer(1, 0, 0));
+        assert_eq!(plan(&PORTER, &[], &mut []), answer(9, 0, 1));
+        assert_eq!(draw(7, 0, &mut []), answer(0, 7, 0));
+    }
+
+    #[test]
+    fn records_one_after_another() {
+        let (mut at, mut kinds) = (0, std::vec::Vec::new());
+        while at < PORTER.len() as u64 {
+            let record = record_at(&PORTER, at);
+            assert_eq!(
+                (record.number, record.start, record.next),
+                (0, at + 1, at + 1 + record.len)
+            );
+            kinds.push(record.kind);
+            at = record.next;
+        }
+        assert_eq!(kinds, [1, 1, 1, 2, 2, 2, 3, 3, 2, 3, 3, 2, 4, 4, 4, 5, 6]);
+        let past_the_end = Record {
+            number: 1,
+            kind: 0,
+            start: 56,
+            len: 0,
+            next: 56,
+        };
+        assert_eq!(record_at(&PORTER, u64::MAX), past_the_end);
+    }
+
+    #[test]
+    fn many_threads_at_once() {
+        std::thread::scope(|scope| {
+            for _ in 0..8 {
+                scope.spawn(|| (0..1000).for_each(|_| draws_plans_and_runs()));
+            }
+        });
+    }
+}

@@ -1,0 +1,144 @@
+/*
+ * Marrowkite: the library that a host links (libmarrowkite.a; docs/HOST.md says how).
+ *
+ * Each call is a function of its arguments: what it answers, and every byte of the buffer afterwards, is settled by
+ * the contract that it was proved against (crates/marrowkite/src/lib.rt).
+ *
+ *
+ * THE NUMBERS
+ *
+ * Number 0 means done. With any other number no byte of the buffer was altered. Where nothing is said, second is 0.
+ *
+ *    0  done                                                      first, second: see each call
+ *
+ *       the file
+ *    1  it ends inside a record or before the end record          first: offset of that record, or the file length
+ *    2  a record of unknown kind                                  first: offset of the record; so for 3 to 7
+ *    3  a record of a known kind that may not stand here
+ *    4  a 33rd variable, a 257th action
+ *    5  a value count that is not 2 to 16; no such variable; a value too large; a task that is not the next
+ *       variable's; a seed that is not 1 to 2,147,483,646
+ *    6  an action whose pre equals its post; a condition on the action's own variable; a condition whose variable
+ *       is not above that of the condition before it
+ *    7  an earlier action sets the same variable to the same value
+ *    8  a byte follows the end record                             first: its offset
+ *
+ *       the rank list
+ *    9  it is not as long as the file has actions                 first: its length; second: 1
+ *       an entry is no action's number, or repeats an earlier     first: the first such index; second: 0
+ *
+ *       there is no straight plan
+ *   10  some variable has no walk                                 first: the lowest such variable
+ *   11  an action on a walk has a condition whose value is not
+ *       on that variable's walk                                   first: the lowest such action;
+ *                                                                 second: its lowest such variable
+ *   12  the walk actions have a ring                              first: how many walk actions are on no ring and
+ *                                                                 come, at any remove, after no ring
+ *
+ *       the buffer
+ *   13  it is too short for the answer                            first: the length needed
+ *
+ *       the plan that is to be run
+ *   14  an entry is no action's number                            first: its index in the plan
+ *   15  the action may not be done                                first: the index; second: the action's own variable
+ *                                                                 if pre fails, else the lowest variable whose
+ *                                                                 condition fails
+ *   16  the step takes a value that was held before               first: the index; second: the variable
+ *   17  all steps are done and the goal is not met                first: the lowest variable away from it
+ *
+ *       the draw
+ *   18  the seed is not 1 to 2,147,483,646                        first: the seed
+ *   19  the count is above 256                                    first: the count
+ *
+ *
+ * MEMORY
+ *
+ * A slice is a pointer and then a length in bytes. All memory is the caller's, and is lent for the time of the call
+ * alone: nothing is allocated, freed or kept.
+ * - A pointer is never null, not even with length 0. For an empty slice pass a pointer to any byte and length 0.
+ * - `const uint8_t *` is only read. Two of these may overlap or be the same.
+ * - `uint8_t *` is the buffer. It overlaps nothing else that is lent to the call, and nobody else reads or writes it
+ *   meanwhile. The answer fills its first bytes; later bytes stay as they were. No byte outside it is touched.
+ * - No alignment is asked for.
+ *
+ * Calls keep nothing from one to the next: the archive has no variables. So calls may run on many threads at once, as
+ * long as each has a buffer of its own. They take no lock, wait for nothing and make no system call. Of the C library
+ * they use memcpy and memset.
+ *
+ *
+ * STACK
+ *
+ * At most, in bytes, whatever the arguments; the tests hold every call that they make to it:
+ *
+ *   marrowkite_check          2,560
+ *   marrowkite_plan           7,424
+ *   marrowkite_plan_seeded    7,424
+ *   marrowkite_run            3,072
+ *   marrowkite_draw             128
+ *   marrowkite_record_at        128
+ */
+#ifndef MARROWKITE_H
+#define MARROWKITE_H
+
+#include <stddef.h>
+#include <stdint.h>
+
+#ifdef __cplusplus
+extern "C" {
+#endif
+
+typedef struct { uint64_t number, first, second; } marrowkite_answer;
+
+/* One record of a file: its kind, where its body starts, the body's length, and the place after it. */
+typedef struct { uint64_t number, kind, start, len, next; } marrowkite_record;
+
+/*
+ * Checks a file: 1 to 8. The first faulty record decides, and its faults are looked for in the order 2, 3, 1, 4, 5, 6, 7.
+ * Done: first is how many actions the file has, second how many variables.
+ */
+marrowkite_answer marrowkite_check(const uint8_t *file, size_t file_len);
+
+/*
+ * Plans with a rank list, one entry for each action: of all straight plans the one whose list of ranks is smallest at
+ * the first place where they differ. 1 to 8, then 9 (the length first), 10, 11, 12, 13.
+ * Done: first is the plan's length; the plan, one byte for each action, fills the first bytes of `plan`. 256 bytes are
+ * always enough.
+ */
+marrowkite_answer marrowkite_plan(const uint8_t *file, size_t file_len, const uint8_t *ranks, size_t ranks_len,
+                                  uint8_t *plan, size_t plan_len);
+
+/*
+ * Plans with the rank list that the file's own seed draws: as marrowkite_plan, without 9.
+ */
+marrowkite_answer marrowkite_plan_seeded(const uint8_t *file, size_t file_len, uint8_t *plan, size_t plan_len);
+
+/*
+ * Runs a plan from the file's start: 1 to 8, then 13, then step by step 14, 15, 16, then 17. 0 exactly if the list is a
+ * straight plan.
+ * Done: first is how many variables the file has; their values in the end, which are the goal's, fill the first bytes
+ * of `state`. 32 bytes are always enough.
+ */
+marrowkite_answer marrowkite_run(const uint8_t *file, size_t file_len, const uint8_t *plan, size_t plan_len,
+                                 uint8_t *state, size_t state_len);
+
+/*
+ * Draws a rank list of `count` entries from a seed (minstd_rand0): 18, 19, 13.
+ * Done: first is the last number of the generator (the seed itself for a count of 0 or 1); the list fills the first
+ * `count` bytes of `ranks`. 256 bytes are always enough.
+ */
+marrowkite_answer marrowkite_draw(uint64_t seed, uint64_t count, uint8_t *ranks, size_t ranks_len);
+
+/*
+ * The record at a place of any bytes, by its kind alone: whether it may stand there and what its body says is not
+ * looked at.
+ * Number 0: kind 1 to 6; the body is the `len` bytes of `file` from `start` on (0 to 4), and `next` is the place after.
+ * Number 2 (unknown kind) or 1 (the file ends inside the record, or at or before `at`): kind and len are 0, start and
+ * next are `at`, or the file length if `at` is at or past the end.
+ */
+marrowkite_record marrowkite_record_at(const uint8_t *file, size_t file_len, uint64_t at);
+
+#ifdef __cplusplus
+}
+#endif
+
+#endif

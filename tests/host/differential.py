@@ -1,0 +1,167 @@
+"""The library against the oracle: every number and every byte of at least 20,000 calls.
+
+    python3 tests/host/differential.py [--seed N] [--calls N] COMMAND...
+
+COMMAND starts tests/host/serve.c. The calls are those of tests/oracle.py: its worked cases, then calls from a seed, which
+is drawn anew for each run (or given, also by MARROWKITE_SEED) and printed. A run goes on until each answer that each call
+can give was met, for at most twice as many calls. Each call's stack is held to the limit that include/marrowkite.h names.
+The last line is 'N passed, M failed': calls that agree, calls that do not and answers that were never met.
+"""
+
+import argparse
+import os
+import random
+import re
+import struct
+import subprocess
+import sys
+import time
+from collections import Counter
+from pathlib import Path
+
+sys.dont_write_bytecode = True
+ROOT = Path(__file__).resolve().parents[2]
+sys.path.insert(0, str(ROOT / "tests"))
+import oracle  # noqa: E402
+
+NAMES = ["record_at", "check", "plan", "plan_seeded", "run", "draw"]  # in the order of serve.c
+FILE_FAULTS = set(range(1, 9))
+CAN_ANSWER = {
+    "record_at": {0, 1, 2},
+    "check": {0} | FILE_FAULTS,
+    "plan": {0, 9, 10, 11, 12, 13} | FILE_FAULTS,
+    "plan_seeded": {0, 10, 11, 12, 13} | FILE_FAULTS,
+    "run": {0, 13, 14, 15, 16, 17} | FILE_FAULTS,
+    "draw": {0, 13, 18, 19},
+}
+SHOWN = 5
+
+
+def parts(name, inputs):
+    """A call as serve.c takes it: two numbers, file, list, buffer."""
+    if name == "record_at":
+        return inputs[1], 0, inputs[0], b"", b""
+    if name == "check":
+        return 0, 0, inputs[0], b"", b""
+    if name == "plan_seeded":
+        return 0, 0, inputs[0], b"", inputs[1]
+    if name == "draw":
+        return inputs[0], inputs[1], b"", b"", inputs[2]
+    return 0, 0, *inputs
+
+
+class Library:
+    """The exported calls, through a running serve."""
+
+    def __init__(self, command):
+        self.process = subprocess.Popen(command, stdin=subprocess.PIPE, stdout=subprocess.PIPE)
+
+    def read(self, length):
+        read = self.process.stdout.read(length)
+        if len(read) < length:
+            raise EOFError
+        return read
+
+    def call(self, name, inputs):
+        """The numbers, the buffer afterwards, whether guard bytes and inputs are whole, and the bytes of stack used."""
+        one, two, file, steps, buffer = parts(name, inputs)
+        head = struct.pack("<6Q", NAMES.index(name), one, two, len(file), len(steps), len(buffer))
+        self.process.stdin.write(head + file + steps + buffer)
+        self.process.stdin.flush()
+        *numbers, whole, stack = struct.unpack("<7Q", self.read(56))
+        used = 5 if name == "record_at" else 3
+        assert not any(numbers[used:])
+        return tuple(numbers[:used]), self.read(len(buffer)), bool(whole), stack
+
+    def end(self):
+        """Whether it ended in order."""
+        self.process.stdin.close()
+        return self.process.wait() == 0
+
+
+def stack_limits():
+    """The table of marrowkite.h: bytes of stack by call."""
+    rows = re.findall(r"^ \*   marrowkite_(\w+) +([\d,]+)$", (ROOT / "include/marrowkite.h").read_text(), re.M)
+    return {name: int(limit.replace(",", "")) for name, limit in rows}
+
+
+def all_calls(seed, n, seen):
+    """The worked cases; n calls; as many more as it takes to meet every answer, but at most n."""
+    yield from ((name, inputs) for _, name, inputs, *_ in oracle.worked_cases())
+    for index, call in enumerate(oracle.calls(seed, 2 * n)):
+        if index >= n and not unmet(seen):
+            return
+        yield call
+
+
+def unmet(seen):
+    return [(name, number) for name in NAMES for number in sorted(CAN_ANSWER[name]) if not seen[name, number]]
+
+
+def differences(name, inputs, library, limits):
+    """What is wrong with a call; the numbers that the library gave and the bytes of stack that it used."""
+    expected = oracle.answer(name, inputs)
+    numbers, buffer, whole, stack = library.call(name, inputs)
+    wrong = []
+    if numbers != expected[0]:
+        wrong.append(f"the library says {numbers}, the oracle {expected[0]}")
+    if buffer != expected[1]:
+        wrong.append(f"the library leaves {buffer.hex(' ')}, the oracle {expected[1].hex(' ')}")
+    if not whole:
+        wrong.append("a guard byte or an input was altered")
+    if stack > limits[name]:
+        wrong.append(f"{stack} bytes of stack; marrowkite.h says at most {limits[name]}")
+    return wrong, numbers, stack
+
+
+def shown(name, inputs):
+    return f"{name}(" + ", ".join(part.hex(" ") or "empty" if isinstance(part, bytes) else str(part) for part in inputs) + ")"
+
+
+def compare(seed, n, command):
+    """Prints what was found; how many agree and how many do not."""
+    library, limits = Library(command), stack_limits()
+    seen, stacks, faults, agreed, longest_file, longest_plan = Counter(), Counter(), [], 0, 0, 0
+    for name, inputs in all_calls(seed, n, seen):
+        try:
+            wrong, numbers, stack = differences(name, inputs, library, limits)
+        except (EOFError, BrokenPipeError):
+            faults.append((shown(name, inputs), ["the host died in this call"]))
+            break
+        seen[name, numbers[0]] += 1
+        stacks[name] = max(stacks[name], stack)
+        if name in ("plan", "plan_seeded") and numbers[0] == 0:
+            longest_file, longest_plan = max(longest_file, len(inputs[0])), max(longest_plan, numbers[1])
+        if wrong:
+            faults.append((shown(name, inputs), wrong))
+        else:
+            agreed += 1
+    if not library.end() and not faults:
+        faults.append(("after the last call", ["the host did not end in order"]))
+    for name in NAMES:
+        tally = ", ".join(f"{number}: {seen[name, number]}" for number in sorted(CAN_ANSWER[name]))
+        print(f"  {name}: {tally}; at most {stacks[name]} bytes of stack")
+    print(f"  planned: files of up to {longest_file} bytes, plans of up to {longest_plan} steps")
+    for call, wrong in sorted(faults, key=lambda fault: len(fault[0]))[:SHOWN]:
+        print("differs:", call, *wrong, sep="\n    ")
+    if n >= 20000:
+        faults += [(f"{name} never answered {number}", []) for name, number in unmet(seen)]
+    return agreed, len(faults)
+
+
+def main():
+    reader = argparse.ArgumentParser(usage="differential.py [--seed N] [--calls N] COMMAND...")
+    reader.add_argument("--seed", type=int, default=os.environ.get("MARROWKITE_SEED") or random.SystemRandom().randrange(2**31))
+    reader.add_argument("--calls", type=int, default=20000)
+    reader.add_argument("command", nargs=argparse.REMAINDER)
+    given = reader.parse_args()
+    print(f"seed {given.seed} (MARROWKITE_SEED={given.seed} makes the same calls again)", flush=True)
+    begun = time.monotonic()
+    agreed, differ = compare(given.seed, given.calls, given.command)
+    print(f"  {agreed + differ} calls compared in {time.monotonic() - begun:.0f} s")
+    print(f"{agreed} passed, {differ} failed")
+    sys.exit(differ > 0)
+
+
+if __name__ == "__main__":
+    main()

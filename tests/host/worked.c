@@ -1,0 +1,270 @@
+/* Document 01's seventeen worked cases through the exported calls, one line each, and what the cases leave open: calls one
+ * after another, calls on several threads, single records, the generator's check number.
+ * Every buffer is lent between guard bytes. Each check below looks at all numbers, all bytes of the buffer, the inputs and
+ * the guard bytes; a refused call has to leave the buffer as it was. */
+#include "lend.h"
+
+#define BYTES(...) ((bytes){(const uint8_t[]){__VA_ARGS__}, sizeof((const uint8_t[]){__VA_ARGS__})})
+#define NOTHING ((bytes){(const uint8_t[]){0}, 0})
+#define ANSWER(...) ((marrowkite_answer){__VA_ARGS__})
+#define DONE(...) ANSWER(0, __VA_ARGS__)
+#define REFUSED(...) ANSWER(__VA_ARGS__), NOTHING /* what is left in the buffer: nothing new */
+
+/* ---- the records of a file ---- */
+
+#define VARIABLE(count) 1, count
+#define ACTION(variable, pre, post) 2, variable, pre, post
+#define CONDITION(variable, value) 3, variable, value
+#define TASK(variable, start, goal) 4, variable, start, goal
+#define SEED_1 5, 0, 0, 0, 1
+#define END 6
+
+/* Variables: pass, cart, ride. */
+#define PORTER_TABLE                                                                                                    \
+  VARIABLE(2), VARIABLE(3), VARIABLE(2),                                                                                \
+  ACTION(0, 0, 1),                                                                                                      \
+  ACTION(1, 0, 1),                                                                                                      \
+  ACTION(1, 1, 2), CONDITION(0, 1), CONDITION(2, 1),                                                                    \
+  ACTION(2, 0, 1), CONDITION(0, 1), CONDITION(1, 1),                                                                    \
+  ACTION(0, 1, 0)
+#define PORTER_FROM(s0, s1, s2, g0, g1, g2) PORTER_TABLE, TASK(0, s0, g0), TASK(1, s1, g1), TASK(2, s2, g2), SEED_1, END
+#define PORTER_TO(g0, g1, g2) BYTES(PORTER_FROM(0, 0, 0, g0, g1, g2))
+#define PORTER PORTER_TO(1, 2, 1)
+#define PORTER_WITHOUT_SEED BYTES(PORTER_TABLE, TASK(0, 0, 1), TASK(1, 0, 2), TASK(2, 0, 1), 5, 0, 0, 0, 0, END)
+
+static const uint8_t porter_of_the_document[] = {
+    0x01, 0x02, 0x01, 0x03, 0x01, 0x02, 0x02, 0x00, 0x00, 0x01, 0x02, 0x01, 0x00, 0x01, 0x02, 0x01, 0x01, 0x02, 0x03,
+    0x00, 0x01, 0x03, 0x02, 0x01, 0x02, 0x02, 0x00, 0x01, 0x03, 0x00, 0x01, 0x03, 0x01, 0x01, 0x02, 0x00, 0x01, 0x00,
+    0x04, 0x00, 0x00, 0x01, 0x04, 0x01, 0x00, 0x02, 0x04, 0x02, 0x00, 0x01, 0x05, 0x00, 0x00, 0x00, 0x01, 0x06};
+
+/* Two variables of 2 values, each 0 to 1, each action wanting the other variable at a value. */
+#define RING_WANTING(value)                                                                                             \
+  BYTES(VARIABLE(2), VARIABLE(2), ACTION(0, 0, 1), CONDITION(1, value), ACTION(1, 0, 1), CONDITION(0, value),           \
+        TASK(0, 0, 1), TASK(1, 0, 1), SEED_1, END)
+#define RING_AND_FREE_ACTION(value)                                                                                     \
+  BYTES(VARIABLE(2), VARIABLE(2), VARIABLE(2), ACTION(0, 0, 1), CONDITION(1, value), ACTION(1, 0, 1),                   \
+        CONDITION(0, value), ACTION(2, 0, 1), TASK(0, 0, 1), TASK(1, 0, 1), TASK(2, 0, 1), SEED_1, END)
+#define TRACE_COMES_ROUND BYTES(VARIABLE(3), ACTION(0, 1, 2), ACTION(0, 2, 1), TASK(0, 0, 2), SEED_1, END)
+
+/* Table 1 of source 004. Variables: haystack, bucket, water. */
+#define HORSE_BREEDER                                                                                                   \
+  BYTES(VARIABLE(3), VARIABLE(2), VARIABLE(3),                                                                          \
+        ACTION(0, 1, 0),                                                                                                \
+        ACTION(0, 0, 1), CONDITION(1, 0),                                                                               \
+        ACTION(0, 1, 2),                                                                                                \
+        ACTION(1, 1, 0),                                                                                                \
+        ACTION(1, 0, 1), CONDITION(0, 0),                                                                               \
+        ACTION(2, 0, 1), CONDITION(1, 1),                                                                               \
+        ACTION(2, 1, 2), CONDITION(1, 1),                                                                               \
+        TASK(0, 0, 2), TASK(1, 0, 0), TASK(2, 0, 2), SEED_1, END)
+
+#define RISING BYTES(0, 1, 2, 3, 4)
+#define ROOM 300
+
+/* ---- one call each: is everything as it should be? ---- */
+
+static int same(marrowkite_answer got, marrowkite_answer wanted) {
+  if (memcmp(&got, &wanted, sizeof got) == 0) return 1;
+  printf("  got %lu %lu %lu, wanted %lu %lu %lu\n", got.number, got.first, got.second, wanted.number, wanted.first,
+         wanted.second);
+  return 0;
+}
+
+static int say(int holds, const char *what) {
+  if (!holds) printf("  %s\n", what);
+  return holds;
+}
+
+/* Ends the loan of an input. */
+static int kept(lent input, bytes given) {
+  int holds = say(unaltered(input, given), "an input or its guard bytes were altered");
+  free(input.block);
+  return holds;
+}
+
+static lent lend_room(size_t room) {
+  uint8_t filler[ROOM];
+  for (size_t i = 0; i < ROOM; i++) filler[i] = (uint8_t)(0xaa + i);
+  return lend((bytes){filler, room});
+}
+
+/* Ends the loan of a buffer, which has to hold some bytes and behind them the filler. */
+static int holds_only(lent buffer, bytes wanted) {
+  int holds = wanted.len <= buffer.len && memcmp(buffer.at, wanted.at, wanted.len) == 0;
+  for (size_t i = wanted.len; i < buffer.len; i++) holds &= buffer.at[i] == (uint8_t)(0xaa + i);
+  holds = say(holds, "the buffer does not hold what it should") & say(guarded(buffer), "guard bytes were altered");
+  free(buffer.block);
+  return holds;
+}
+
+static int check(bytes file, marrowkite_answer wanted) {
+  lent f = lend(file);
+  return same(marrowkite_check(f.at, f.len), wanted) & kept(f, file);
+}
+
+static int plan(bytes file, bytes ranks, size_t room, marrowkite_answer wanted, bytes left) {
+  lent f = lend(file), r = lend(ranks), buffer = lend_room(room);
+  return same(marrowkite_plan(f.at, f.len, r.at, r.len, buffer.at, buffer.len), wanted) & kept(f, file) &
+         kept(r, ranks) & holds_only(buffer, left);
+}
+
+static int plan_seeded(bytes file, size_t room, marrowkite_answer wanted, bytes left) {
+  lent f = lend(file), buffer = lend_room(room);
+  return same(marrowkite_plan_seeded(f.at, f.len, buffer.at, buffer.len), wanted) & kept(f, file) &
+         holds_only(buffer, left);
+}
+
+static int run(bytes file, bytes steps, size_t room, marrowkite_answer wanted, bytes left) {
+  lent f = lend(file), s = lend(steps), buffer = lend_room(room);
+  return same(marrowkite_run(f.at, f.len, s.at, s.len, buffer.at, buffer.len), wanted) & kept(f, file) &
+         kept(s, steps) & holds_only(buffer, left);
+}
+
+static int draw(uint64_t seed, uint64_t count, size_t room, marrowkite_answer wanted, bytes left) {
+  lent buffer = lend_room(room);
+  return same(marrowkite_draw(seed, count, buffer.at, buffer.len), wanted) & holds_only(buffer, left);
+}
+
+static int record_at(bytes file, uint64_t at, marrowkite_record wanted) {
+  lent f = lend(file);
+  marrowkite_record got = marrowkite_record_at(f.at, f.len, at);
+  return say(memcmp(&got, &wanted, sizeof got) == 0, "another record") & kept(f, file);
+}
+
+/* ---- beyond one call ---- */
+
+/* Document 01's draw, written out. */
+static uint64_t drawn(uint64_t last, size_t count, uint8_t *list) {
+  for (size_t i = 0; i < count; i++) list[i] = (uint8_t)i;
+  for (size_t i = count; i-- > 1;) {
+    last = last * 16807 % 2147483647;
+    size_t j = last % (i + 1);
+    uint8_t entry = list[i];
+    list[i] = list[j];
+    list[j] = entry;
+  }
+  return last;
+}
+
+static int draw_of_256(void) {
+  uint8_t list[256];
+  uint64_t last = drawn(1, 256, list);
+  return draw(1, 256, 256, DONE(last, 0), (bytes){list, 256}) & draw(1, 256, ROOM, DONE(last, 0), (bytes){list, 256});
+}
+
+/* A draw of 256 takes 255 numbers: 39 of them and one of 56 take 10,000. */
+static int generator(void) {
+  uint8_t list[256];
+  uint64_t last = 1;
+  for (int i = 0; i < 39; i++) last = marrowkite_draw(last, 256, list, sizeof list).first;
+  return marrowkite_draw(last, 56, list, sizeof list).first == 1043618065;
+}
+
+/* Different files one after another, each answered as if it were the first. */
+static int in_a_row(void) {
+  int holds = 1;
+  for (int round = 0; round < 3; round++) {
+    holds &= plan(PORTER, RISING, 8, DONE(4, 0), BYTES(0, 1, 3, 2));
+    holds &= plan(PORTER, RISING, 8, DONE(4, 0), BYTES(0, 1, 3, 2));
+    holds &= plan_seeded(RING_WANTING(0), 8, REFUSED(12, 0, 0));
+    holds &= plan_seeded(TRACE_COMES_ROUND, 8, REFUSED(10, 0, 0)); /* the deepest stack */
+    holds &= plan_seeded(PORTER, 8, DONE(4, 0), BYTES(1, 0, 3, 2));
+    holds &= run(PORTER, BYTES(0, 4), 8, REFUSED(16, 1, 0));
+    holds &= run(PORTER, BYTES(1, 0, 3, 2), 8, DONE(3, 0), BYTES(1, 2, 1));
+    holds &= check(HORSE_BREEDER, DONE(7, 3));
+    holds &= check(TRACE_COMES_ROUND, DONE(2, 1));
+    holds &= draw(1, 5, 8, DONE(984943658, 0), BYTES(3, 0, 4, 1, 2));
+    holds &= draw(1, 3, 8, DONE(282475249, 0), BYTES(0, 2, 1));
+  }
+  return holds;
+}
+
+/* Threads of the smallest stack that the C library allows. */
+typedef unsigned long pthread_t;
+typedef union {
+  char size[56];
+  long align;
+} pthread_attr_t;
+int pthread_attr_init(pthread_attr_t *attr);
+int pthread_attr_setstacksize(pthread_attr_t *attr, size_t size);
+int pthread_create(pthread_t *thread, const pthread_attr_t *attr, void *(*start)(void *), void *arg);
+int pthread_join(pthread_t thread, void **result);
+enum { THREADS = 8, SMALLEST_STACK = 16384 };
+
+static void *many_in_a_row(void *holds) {
+  for (int i = 0; i < 100; i++) *(int *)holds &= in_a_row();
+  return 0;
+}
+
+static int on_threads(void) {
+  pthread_attr_t attr;
+  pthread_t threads[THREADS];
+  int each[THREADS], holds = pthread_attr_init(&attr) == 0 && pthread_attr_setstacksize(&attr, SMALLEST_STACK) == 0;
+  for (int i = 0; i < THREADS; i++) {
+    each[i] = 1;
+    if (pthread_create(&threads[i], &attr, many_in_a_row, &each[i]) != 0) return 0;
+  }
+  for (int i = 0; i < THREADS; i++) holds &= pthread_join(threads[i], 0) == 0 && each[i];
+  return holds;
+}
+
+/* ---- the cases ---- */
+
+static int passed, failed;
+
+static void report(const char *name, int holds) {
+  printf("%s: %s\n", name, holds ? "passed" : "FAILED");
+  holds ? passed++ : failed++;
+}
+
+int main(void) {
+  report("case 1, draw of 3", draw(1, 3, 8, DONE(282475249, 0), BYTES(0, 2, 1)));
+  report("case 2, draw of 5", draw(1, 5, 5, DONE(984943658, 0), BYTES(3, 0, 4, 1, 2)));
+  report("case 3, ranks rising", plan(PORTER, RISING, 8, DONE(4, 0), BYTES(0, 1, 3, 2)));
+  report("case 4, ranks as drawn", plan(PORTER, BYTES(3, 0, 4, 1, 2), 8, DONE(4, 0), BYTES(1, 0, 3, 2)) &
+                                       plan_seeded(PORTER, 8, DONE(4, 0), BYTES(1, 0, 3, 2)));
+  report("case 5, empty plan", plan(PORTER_TO(0, 0, 0), RISING, 8, DONE(0, 0), NOTHING) &
+                                   plan(PORTER_TO(0, 0, 0), RISING, 0, DONE(0, 0), NOTHING));
+  report("case 6, pass back", plan(PORTER_TO(0, 2, 1), RISING, 8, REFUSED(11, 2, 0)));
+  report("case 7, no ride", plan(PORTER_TO(1, 2, 0), RISING, 8, REFUSED(11, 2, 2)));
+  report("case 8, cart not away", plan(PORTER_TO(1, 1, 1), RISING, 8, DONE(3, 0), BYTES(0, 1, 3)));
+  report("case 9, no walk", plan(BYTES(PORTER_FROM(0, 2, 0, 1, 0, 1)), RISING, 8, REFUSED(10, 1, 0)));
+  report("case 10, short buffer", plan(PORTER, RISING, 3, REFUSED(13, 4, 0)) &
+                                      plan(PORTER, RISING, 4, DONE(4, 0), BYTES(0, 1, 3, 2)) &
+                                      plan_seeded(PORTER, 3, REFUSED(13, 4, 0)));
+  report("case 11, bad ranks", plan(PORTER, BYTES(0, 1, 1, 3, 4), 8, REFUSED(9, 2, 0)) &
+                                   plan(PORTER, BYTES(0, 1, 2, 3), 8, REFUSED(9, 4, 1)));
+  report("case 12, runs", run(PORTER, BYTES(0, 1, 3, 2), 8, DONE(3, 0), BYTES(1, 2, 1)) &
+                              run(PORTER, BYTES(1, 3), 8, REFUSED(15, 1, 0)) &
+                              run(PORTER, BYTES(0, 4), 8, REFUSED(16, 1, 0)) &
+                              run(PORTER, NOTHING, 8, REFUSED(17, 0, 0)) &
+                              run(PORTER, BYTES(0, 1, 3, 2), 2, REFUSED(13, 3, 0)));
+  report("case 13, rings", plan(RING_WANTING(1), BYTES(0, 1), 8, REFUSED(12, 0, 0)) &
+                               plan(RING_WANTING(0), BYTES(0, 1), 8, REFUSED(12, 0, 0)) &
+                               plan(RING_AND_FREE_ACTION(1), BYTES(0, 1, 2), 8, REFUSED(12, 1, 0)) &
+                               plan(RING_AND_FREE_ACTION(0), BYTES(0, 1, 2), 8, REFUSED(12, 1, 0)));
+  report("case 14, trace comes round", plan(TRACE_COMES_ROUND, BYTES(0, 1), 8, REFUSED(10, 0, 0)));
+  report("case 15, horse breeder", plan(HORSE_BREEDER, BYTES(0, 1, 2, 3, 4, 5, 6), 8, REFUSED(11, 5, 1)));
+  bytes porter = {porter_of_the_document, sizeof porter_of_the_document};
+  report("case 16, files", say(porter.len == PORTER.len && memcmp(porter.at, PORTER.at, 56) == 0, "another porter") &
+                               check(porter, DONE(5, 3)) & check(PORTER_WITHOUT_SEED, ANSWER(5, 50, 0)) &
+                               check((bytes){porter.at, 55}, ANSWER(1, 55, 0)) &
+                               check((bytes){porter.at, 54}, ANSWER(1, 50, 0)) &
+                               check(BYTES(PORTER_FROM(0, 0, 0, 1, 2, 1), 0), ANSWER(8, 56, 0)));
+  report("case 17, draws at the edges", draw(2147483646, 1, 8, DONE(2147483646, 0), BYTES(0)) &
+                                            draw(2147483647, 1, 8, REFUSED(18, 2147483647, 0)) & draw_of_256() &
+                                            draw(1, 257, ROOM, REFUSED(19, 257, 0)));
+  report("single records", record_at(PORTER, 18, (marrowkite_record){0, 3, 19, 2, 21}) &
+                               record_at(PORTER, 55, (marrowkite_record){0, 6, 56, 0, 56}) &
+                               record_at(PORTER, 0, (marrowkite_record){0, 1, 1, 1, 2}) &
+                               record_at(PORTER, 7, (marrowkite_record){2, 0, 7, 0, 7}) &
+                               record_at(PORTER, 56, (marrowkite_record){1, 0, 56, 0, 56}) &
+                               record_at(PORTER, ~0ul, (marrowkite_record){1, 0, 56, 0, 56}) &
+                               record_at(BYTES(5, 0, 0, 0), 0, (marrowkite_record){1, 0, 0, 0, 0}) &
+                               record_at(NOTHING, 0, (marrowkite_record){1, 0, 0, 0, 0}));
+  report("the generator's 10,000th number", generator());
+  report("different files in a row", in_a_row());
+  report("many calls on 8 threads of 16 KiB", on_threads());
+  printf("%d passed, %d failed\n", passed, failed);
+  return failed != 0;
+}
