@@ -35,7 +35,7 @@ pub seeded-settled : (file before : List ℕ) → Settles (SeededAllows file bef
 seeded-settled file before r r′ after after′ = by (reading file) refl
   where
     by :
-      (said : Said) → reading file ≡ said → PlansSeeded said before r after → PlansSeeded said before r′ after′ → (r ≡ r′) × (after ≡ after′)
+        (said : Said) → reading file ≡ said → PlansSeeded said before r after → PlansSeeded said before r′ after′ → (r ≡ r′) × (after ≡ after′)
     by (says t) e p q = plans-determined (loads-lawful file t e) p q
     by (refused number place) e p q = (p .0 ∙ sym (q .0), p .1 ∙ sym (q .1))
 
