@@ -1,0 +1,62 @@
+-- A file that is refused is refused with a number from 1 on.
+-- Assumes nothing.
+use mathlib.Core.List.{List}
+use Prim.Native.Nat.{ℕ, zero, suc, _+_, _≤_}
+use native.Mathlib.Omega.{arith}
+use lib.Dec.{ltb}
+use lib.ListN.{length}
+use Rattle.plain.proofs.Tests.{picked}
+use Rattle.records.specs.Records.{recordAt}
+use Rattle.records.specs.declared.Found.{Found}
+use Rattle.records.specs.declared.Found.the-variants.{There, Unknown, Cut, Ended}
+use Rattle.study.specs.Reading.{Said, says, refused, Record, variable, action, condition, task, seed, end, recordFrom, Draft, blank, allowed, fault}
+use Rattle.study.specs.Reading.{Verdict, settled, onward, taken, unless, judged, verdictAt, follow, readOn, reading}
+
+abbrev pub Numbered : Said → Type 0
+Numbered (says t) = Unit {0}
+Numbered (refused number place) = 1 ≤ number
+
+abbrev NumberedVerdict : Verdict → Type 0
+NumberedVerdict (settled s) = Numbered s
+NumberedVerdict (onward at d) = Unit {0}
+
+taken-numbered : (file : List ℕ) (d : Draft) (kind next : ℕ) (r : Record) → NumberedVerdict (taken file d kind next r)
+unfolding taken
+taken-numbered file d kind next (variable n) = tt
+taken-numbered file d kind next (action v p q) = tt
+taken-numbered file d kind next (condition v q) = tt
+taken-numbered file d kind next (task v p q) = tt
+taken-numbered file d kind next (seed n) = tt
+taken-numbered file d kind next end = picked Numbered (ltb next (length file)) (λ _. omega arith) (λ _. tt)
+
+unless-numbered : (n at : ℕ) (v : Verdict) → NumberedVerdict v → NumberedVerdict (unless n at v)
+unfolding unless
+unless-numbered zero at v h = h
+unless-numbered (suc n) at v h = omega arith
+
+judged-numbered : (file : List ℕ) (at : ℕ) (d : Draft) (f : Found) → NumberedVerdict (judged file at d f)
+unfolding judged
+judged-numbered file at d (There kind start next) =
+    picked NumberedVerdict (allowed d kind)
+    (λ _. unless-numbered (fault (d .study) (recordFrom file start kind)) at _ (taken-numbered file d kind next (recordFrom file start kind)))
+    (λ _. omega arith)
+judged-numbered file at d (Unknown place) = omega arith
+judged-numbered file at d (Cut kind place) = picked (λ (n : ℕ). 1 ≤ n) (allowed d kind) (λ _. omega arith) (λ _. omega arith)
+judged-numbered file at d (Ended place) = omega arith
+
+verdict-numbered : (file : List ℕ) (at : ℕ) (d : Draft) → NumberedVerdict (verdictAt file at d)
+unfolding verdictAt
+verdict-numbered file at d = judged-numbered file at d (recordAt file at)
+
+follow-numbered : (v : Verdict) (read : ℕ → Draft → Said) → NumberedVerdict v → ((at : ℕ) (d : Draft) → Numbered (read at d)) → Numbered (follow v read)
+follow-numbered (settled s) read h f = h
+follow-numbered (onward at d) read h f = f at d
+
+read-on-numbered : (n : ℕ) (file : List ℕ) (at : ℕ) (d : Draft) → Numbered (readOn n file at d)
+unfolding readOn
+read-on-numbered zero file at d = omega arith
+read-on-numbered (suc n) file at d = follow-numbered (verdictAt file at d) (readOn n file) (verdict-numbered file at d) (read-on-numbered n file)
+
+pub reading-numbered : (file : List ℕ) → Numbered (reading file)
+unfolding reading
+reading-numbered file = read-on-numbered (length file + 1) file 0 blank

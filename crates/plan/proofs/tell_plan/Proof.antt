@@ -1,0 +1,35 @@
+-- `plan::tell_plan` meets its contract: the tables show each action as the study has it.
+-- Assumes nothing.
+use native.Mathlib.Omega.{arith}
+use Rattle.io.proofs.Counting.{counts}
+use Rattle.loader.specs.Tables.{tables, actionTables}
+use Rattle.loader.proofs.Fresh.{fresh-sized}
+use Rattle.plan.proofs.Planned.{loaded-text}
+use borrow.Author.Needs.{needs}
+use Rattle.plan.proofs.tell_plan.Statement.{statement}
+use Rattle.plan.proofs.tell_plan.Tie as tie
+
+load-requires : tie.Need-load-requires
+load-requires c κs = search needs
+
+plan-requires : tie.Need-plan-requires
+plan-requires c κs = search needs
+
+same-length : tie.Need-same-length
+same-length c = search needs
+
+returns : tie.Need-returns
+returns c =
+    let p = c .before .before in
+    let start = p .before .before .before .before .before .before .before .before .before .before .before .before .before .before .before .before .before .before in
+    let l = p .before .before .before .before .before in
+    let held =
+    tables (l .load .last .1 .0)
+    (actionTables (l .load .last .1 .1 .0) (l .load .last .1 .1 .1 .0) (l .load .last .1 .1 .1 .1 .0) (l .load .last .1 .1 .1 .1 .1 .0) (l .load .last .1 .1 .1 .1 .1 .1 .0) (l .load .last .1 .1 .1 .1 .1 .1 .1 .0))
+    (l .load .last .1 .1 .1 .1 .1 .1 .1 .1 .0) (l .load .last .1 .1 .1 .1 .1 .1 .1 .1 .1 .0) in (
+      counts _ _ (omega (arith, p .plan .kept .1 .1 .1 .1 .0)),
+      λ t said usable. loaded-text (start .args .file .now) (start .args .plan .now) t held (l .load .result) (l .load .ensures fresh-sized) said usable (p .plan .ensures .1),
+    )
+
+pub tell-plan-spec : {M : Type 1} → statement M
+tell-plan-spec = tie.close (tie.spec load-requires plan-requires same-length returns)

@@ -1,0 +1,74 @@
+// Plans the study file on standard input with its own seed, and prints the plan or the refusal.
+mod lines;
+mod text;
+
+ghost use mathlib.Core.Path.{_≡_};
+ghost use Prim.Native.Nat.{ℕ, _≤_, _<_};
+ghost use lib.ListN.{length, getD, take};
+ghost use Rattle.io.specs.Counts.{Counts};
+ghost use Rattle.study.specs.Study.{Study};
+ghost use Rattle.study.specs.Reading.{reading, says};
+ghost use Rattle.plan.specs.Text.{shownOf, planText};
+ghost use Rattle.plan.specs.Printed.{Printed};
+use libc::STDIN_FILENO;
+use libc::STDOUT_FILENO;
+
+// One byte more than the longest file: of a longer one these bytes are planned, and refused.
+fn main() {
+    let mut file = [0u8; 25031];
+    let n = io::read_full(STDIN_FILENO, &mut file);
+    print(&file[..n]);
+}
+
+fn print(file: &[u8]) {
+    let mut out = [0u8; 5129];
+    let n = tell(file, &mut out);
+    io::write_all(STDOUT_FILENO, &out[..n]);
+}
+
+// Puts what the program prints of the file at the start of `out`, and answers how many bytes that is.
+// 5,129 bytes hold the longest plan: a first line of 9, and 256 lines of 20 at most.
+fn tell(file: &[u8], out: &mut [u8]) -> usize
+    requires { ⌜ 5129 ≤ length (now out) ⌝ }
+    ensures { λ r. ⌜ Counts r (now (out .exit)) ⌝ }
+    ensures { λ r. ⌜ Printed (reading (now (file .entry))) (take r (now (out .exit))) ⌝ }
+{
+    let mut plan = [0u8; 256];
+    let answer = planner::plan_seeded(file, &mut plan);
+    if answer.number != 0 {
+        return lines::refused(answer, out);
+    }
+    let n = answer.first as usize;
+    tell_plan(file, &plan[..n], out)
+}
+
+fn tell_plan(file: &[u8], plan: &[u8], out: &mut [u8]) -> usize
+    requires { ⌜ (length (now plan) ≤ 256) × (5129 ≤ length (now out)) ⌝ }
+    ensures { λ r. ⌜ Counts r (now (out .exit)) ⌝ }
+    ensures { λ r. ⌜ ((t : Study) → reading (now (file .entry)) ≡ says t
+        → ((k : ℕ) → k < length (now (plan .entry)) → getD (now (plan .entry)) k 0 < length (t .actions))
+        → take r (now (out .exit)) ≡ planText (shownOf (t .actions)) (now (plan .entry))) ⌝ }
+{
+    let mut counts = [0u8; 32];
+    let mut setters = [0u8; 512];
+    let mut vars = [0u8; 256];
+    let mut pres = [0u8; 256];
+    let mut posts = [0u8; 256];
+    let mut places = [0u16; 256];
+    let mut manys = [0u8; 256];
+    let mut starts = [0u8; 32];
+    let mut goals = [0u8; 32];
+    loader::load(
+        file,
+        &mut counts,
+        &mut setters,
+        &mut vars,
+        &mut pres,
+        &mut posts,
+        &mut places,
+        &mut manys,
+        &mut starts,
+        &mut goals,
+    );
+    lines::plan(plan, &vars, &pres, &posts, out)
+}
