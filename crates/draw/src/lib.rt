@@ -17,7 +17,13 @@ const MOST_ACTIONS: u64 = 256;
 pub fn next(last: u32) -> u32
     ensures { λ r. ⌜ r ≡ Draw·next last ⌝ }
 {
-    (16807 * last as u64 % 2147483647) as u32
+    let product = 16807 * last as u64;
+    let sum = (product % 2147483648 + product / 2147483648) as u32;
+    if sum < 2147483647 {
+        sum
+    } else {
+        sum - 2147483647
+    }
 }
 
 // Writes 0, 1, .. into the first `count` entries.
@@ -43,18 +49,18 @@ fn exchange(ranks: &mut [u8], i: usize, j: usize)
 
 // Shuffles the first `count` entries and returns the generator's last number.
 fn shuffle(ranks: &mut [u8], count: usize, seed: u32) -> u32
-    requires { ⌜ count ≤ length (now ranks) ⌝ }
+    requires { ⌜ (count ≤ 256) × (count ≤ length (now ranks)) ⌝ }
     ensures { λ r.
         ⌜ (r ≡ numberAfter (count - 1) seed)
         × (now (ranks .exit) ≡ shuffled (count - 1) seed (now (ranks .entry))) ⌝ }
 {
     let mut last = seed;
-    let mut left = count;
+    let mut left = count as u32;
     while 1 < left {
         last = next(last);
-        let j = last as usize % left;
+        let j = last % left;
         left -= 1;
-        exchange(ranks, left, j);
+        exchange(ranks, left as usize, j as usize);
     }
     last
 }

@@ -3,7 +3,7 @@
 -- Assumes nothing.
 use mathlib.Core.Path.{_≡_, sym, ap, _∙_}
 use mathlib.Core.List.{List}
-use Prim.Native.Nat.{ℕ, suc, _+_, _-_, _%_, _≤_}
+use Prim.Native.Nat.{ℕ, suc, _+_, _-_, _%_, _≤_, _<_}
 use native.Mathlib.Nat.{mod-lt}
 use native.Mathlib.Omega.{arith}
 use lib.ListN.{length}
@@ -30,14 +30,14 @@ turn-list last l left i k e f = rw (e, f)
 turn-number : (last i k : ℕ) → i ≡ suc k → numberAfter k (next last) ≡ numberAfter i last
 turn-number last i k f = rw f
 
+cast-left : tie.Need-cast-left Inv-loop μ-loop
+cast-left c = search needs
+
 loop-holds : tie.Need-loop-holds Inv-loop μ-loop
 loop-holds c = search needs
 
 next-requires : tie.Need-next-requires Inv-loop μ-loop
 next-requires c κs = search needs
-
-cast-j : tie.Need-cast-j Inv-loop μ-loop
-cast-j c = search needs
 
 rem-j : tie.Need-rem-j Inv-loop μ-loop
 rem-j c = search needs
@@ -45,10 +45,19 @@ rem-j c = search needs
 sub-left : tie.Need-sub-left Inv-loop μ-loop
 sub-left c = search needs
 
+-- the drawn partner is among those left
+partner-left : (c : tie.After-exchange-arg Inv-loop μ-loop)
+    → c .before .next .result % c .before .before .before .loop .left < c .before .before .before .loop .left
+partner-left c = mod-lt (c .before .next .result) (omega arith)
+
+cast-exchange : tie.Need-cast-exchange Inv-loop μ-loop
+cast-exchange c = search needs
+
+cast-exchange-2 : tie.Need-cast-exchange-2 Inv-loop μ-loop
+cast-exchange-2 c = omega (arith, partner-left c)
+
 exchange-requires : tie.Need-exchange-requires Inv-loop μ-loop
-exchange-requires c κs =
-    let left = c .before .before .before .loop .left in
-    (search needs, omega (arith, mod-lt (c .before .next .result) {m = left} (omega arith)))
+exchange-requires c κs = (search needs, omega (arith, partner-left c))
 
 loop-less : tie.Need-loop-less Inv-loop μ-loop
 loop-less c = search needs
@@ -90,11 +99,13 @@ shuffle-spec =
     (tie.spec
     Inv-loop
     μ-loop
+    cast-left
     loop-holds
     next-requires
-    cast-j
     rem-j
     sub-left
+    cast-exchange
+    cast-exchange-2
     exchange-requires
     loop-less
     loop-again
