@@ -7,7 +7,7 @@ use native.Mathlib.Omega.{arith}
 use lib.ListN.{length, getD}
 use Rattle.study.specs.Study.{Study}
 use Rattle.lawful.specs.Lawful.{Has, Lawful}
-use Rattle.walks.specs.Walks.{preOf, postOf, startOf, goalOf}
+use Rattle.walks.specs.Walks.{preOf, postOf, goalOf}
 use Rattle.planner.specs.Facts.{Tells, Moves}
 
 module _ {t : Study} (lawful : Lawful t) where
@@ -20,16 +20,10 @@ module _ {t : Study} (lawful : Lawful t) where
   pub post-small : (i : ℕ) → i < length (t .actions) → postOf t i < 16
   post-small i h = value-small (lawful .action i h .has-post)
 
-  pub start-small : (v : ℕ) → v < length (t .tasks) → startOf t v < 16
-  start-small v h = value-small (lawful .has-start v h)
-
   pub goal-small : (v : ℕ) → v < length (t .tasks) → goalOf t v < 16
   goal-small v h = value-small (lawful .has-goal v h)
 
-  -- .. as the tables tell them
-  pub told-start-small : {n : ℕ} → n ≡ length (t .tasks) → (starts : List ℕ) → Tells startOf n starts t → (v : ℕ) → v < n → getD starts v 0 < 16
-  told-start-small count starts tells v h = rw (tells v h) (start-small v (omega arith))
-
+  -- .. as the table tells it
   pub told-goal-small : {n : ℕ} → n ≡ length (t .tasks) → (goals : List ℕ) → Tells goalOf n goals t → (v : ℕ) → v < n → getD goals v 0 < 16
   told-goal-small count goals tells v h = rw (tells v h) (goal-small v (omega arith))
 

@@ -3,10 +3,10 @@
 use mathlib.Core.Path.{_≡_, refl, _∙_}
 use mathlib.Core.Logic.{inl, inr, _≢_}
 use mathlib.Core.List.{List, [], _++_}
-use Prim.Native.Nat.{ℕ, _+_, _≤_, _<_}
+use Prim.Native.Nat.{ℕ, _+_, _*_, _≤_, _<_}
 use native.Mathlib.Omega.{arith}
 use native.Mathlib.Decide.{decLt}
-use lib.ListN.{length, getD, length-append}
+use lib.ListN.{length, getD, set, length-append}
 use Rattle.study.specs.Study.{Study}
 use Rattle.lawful.specs.Lawful.{Lawful}
 use Rattle.orders.specs.Orders.{In, Distinct}
@@ -14,12 +14,12 @@ use Rattle.walks.specs.Walks.{Walk, OnAWalk, varOf, preOf, startOf, goalOf}
 use Rattle.orders.proofs.Lists.{in-append-left, in-append-right, in-append-cases, distinct-append}
 use Rattle.walks.proofs.Leads.{leads-in}
 use Rattle.walks.proofs.Unique.{walk-unique, walk-distinct, walk-there}
-use Rattle.planner.specs.Rows.{RowTo, EmptyRow, SameRows, Way, Traces, Rowed, WalksAll}
+use Rattle.planner.specs.Rows.{RowTo, EmptyRow, Way, WayEntered, NoWayWithin, Rowed, WalksAll}
 use Rattle.planning.specs.Planning.{LowestWithout}
-use Rattle.planner.specs.declared.tracing.Traced.the-variants.{Found, Broken}
 use Rattle.planner.specs.declared.tracing.Walked.the-variants.{All}
-use Rattle.planner.proofs.Ranges.{pre-small, goal-small}
+use Rattle.planner.proofs.Ranges.{pre-small, goal-small, few-tasks}
 use Rattle.planner.proofs.Few.{walk-short}
+use Rattle.planner.proofs.Entering.{SameRows, row-entered, same-rows}
 
 -- the actions on the walks of the first m variables, each once
 pub record MembersBelow (t : Study) (m : ℕ) (list : List ℕ) : Type 0 where
@@ -90,10 +90,11 @@ module _ {t : Study} (lawful : Lawful t) where
             let same : o .list ≡ walk = walk-unique lawful (rw e at (o .walk)) w in
             in-append-right x list walk (rw same at (o .on))
 
-    module _ (steps steps′ : List ℕ) (total : ℕ) (entered : Entered t v steps total) where
+    module _ (steps : List ℕ) (total : ℕ) (entered : Entered t v steps total) where
       pub one-more-entered :
-          {k : ℕ} → Traces t v (goalOf t v) 16 steps steps′ (Found k) → Entered t (v + 1) steps′ (total + k)
-      one-more-entered (walk, (way, (e, (row, same)))) =
+          (steps′ : List ℕ) {k : ℕ} → length steps ≡ 512
+          → WayEntered t v (goalOf t v) 0 (set steps (16 * v + goalOf t v) 1) steps′ k → Entered t (v + 1) steps′ (total + k)
+      one-more-entered steps′ sized (walk, (way, (e, enters))) =
           record {
             rowed = λ u h. rows u h (decLt u v);
             rest-empty = λ u h g x b. same u x (omega arith) b ∙ entered .rest-empty u (omega arith) g x b;
@@ -102,14 +103,26 @@ module _ {t : Study} (lawful : Lawful t) where
             long = omega (arith, length-append (entered .list) walk, entered .long, e);
           }
         where
+          low : v < 32
+          low = omega (arith, few-tasks lawful)
+
+          small : goalOf t v < 16
+          small = goal-small lawful v there
+
+          same : SameRows v steps steps′
+          same = same-rows lawful steps way enters small
+
+          row : RowTo t v walk (goalOf t v) steps′
+          row = row-entered lawful steps way enters (omega (arith, low, small)) (entered .rest-empty v (omega arith) low)
+
           rows : (u : ℕ) → u < v + 1 → Dec (u < v) → (list : List ℕ) × (Walk t u list × RowTo t u list (goalOf t u) steps′)
           rows u h (yes g) =
               let (list, (w, r)) = entered .rowed u g in
               (list, (w, row-stays v u steps steps′ list (omega arith) (omega arith) same w r))
           rows u h (no g) = let f : u ≡ v = omega arith in rw f (walk, (way-walk way, row))
 
-      pub without-walk : Traces t v (goalOf t v) 16 steps steps′ Broken → LowestWithout t v
-      without-walk (e, none) =
+      pub without-walk : NoWayWithin t v (goalOf t v) 16 → LowestWithout t v
+      without-walk none =
           record {
             there = there;
             without = λ list walk. omega (arith, none list (walk-way walk), walk-short lawful walk);

@@ -1,6 +1,6 @@
 -- The table of steps: by variable and value, at 16 * v + q, 2 more than the walk action that leaves the value, 1 at the walk's end, 0 off the walk.
 -- Assumes nothing.
-use Prim.Native.Nat.{ℕ, _+_, _*_, _≤_, _<_}
+use Prim.Native.Nat.{ℕ, _+_, _*_, _<_}
 use mathlib.Core.Path.{_≡_}
 use mathlib.Core.Logic.{_≢_}
 use mathlib.Core.List.{List}
@@ -11,8 +11,6 @@ use Rattle.walks.specs.Walks.{Leads, Walk, OnAWalk, varOf, preOf, postOf, start
 use Rattle.planning.specs.Planning.{LowestWithout}
 use Rattle.planner.specs.declared.tracing.Named.{Named}
 use Rattle.planner.specs.declared.tracing.Named.the-variants.{Is, Nobody}
-use Rattle.planner.specs.declared.tracing.Traced.{Traced}
-use Rattle.planner.specs.declared.tracing.Traced.the-variants.{Found, Broken}
 use Rattle.planner.specs.declared.tracing.Walked.{Walked}
 use Rattle.planner.specs.declared.tracing.Walked.the-variants.{All, NoWalk}
 
@@ -20,11 +18,6 @@ use Rattle.planner.specs.declared.tracing.Walked.the-variants.{All, NoWa
 abbrev pub SetterIs : Study → ℕ → ℕ → Named → Type 0
 SetterIs t v q (Is i) = (i < length (t .actions)) × (varOf t i ≡ v) × (postOf t i ≡ q)
 SetterIs t v q Nobody = (i : ℕ) → i < length (t .actions) → varOf t i ≡ v → postOf t i ≡ q → ⊥
-
--- no more actions than values that could be passed
-abbrev pub Short : ℕ → Traced → Type 0
-Short left (Found n) = n ≤ left
-Short left Broken = Unit {0}
 
 -- row v of the table, for a list that leads from the start to q
 pub record RowTo (t : Study) (v : ℕ) (list : List ℕ) (q : ℕ) (steps : List ℕ) : Type 0 where
@@ -36,20 +29,33 @@ pub record RowTo (t : Study) (v : ℕ) (list : List ℕ) (q : ℕ) (steps : List
 abbrev pub EmptyRow : ℕ → List ℕ → Type 0
 EmptyRow v steps = (x : ℕ) → x < 16 → getD steps (16 * v + x) 0 ≡ 0
 
--- the other rows are the same
-abbrev pub SameRows : ℕ → List ℕ → List ℕ → Type 0
-SameRows v steps steps′ = (u x : ℕ) → u ≢ v → x < 16 → getD steps′ (16 * u + x) 0 ≡ getD steps (16 * u + x) 0
-
 -- a list that leads from the start to q, and does not set the start
 pub record Way (t : Study) (v q : ℕ) (list : List ℕ) : Type 0 where
   pub leads : Leads t v (startOf t v) list q
   pub ends-at-start : (i : ℕ) → In i list → postOf t i ≢ startOf t v
 
--- a trace from q that may pass `left` more values: it found the way and entered it, or there is none that short
-abbrev pub Traces : Study → ℕ → ℕ → ℕ → List ℕ → List ℕ → Traced → Type 0
-Traces t v q left steps steps′ (Found n) =
-    (list : List ℕ) × (Way t v q list × ((length list ≡ n) × (RowTo t v list q steps′ × SameRows v steps steps′)))
-Traces t v q left steps steps′ Broken = (steps′ ≡ steps) × ((list : List ℕ) → Way t v q list → left < length list)
+-- a list is entered in row v: at the value that each action leaves, 2 more than the action; every other entry stays
+pub record Enters (t : Study) (v : ℕ) (list steps steps′ : List ℕ) : Type 0 where
+  pub leaves : (k : ℕ) → k < length list → getD steps′ (16 * v + preOf t (getD list k 0)) 0 ≡ getD list k 0 + 2
+  pub stays : (j : ℕ) → ((k : ℕ) → k < length list → 16 * v + preOf t (getD list k 0) ≢ j) → getD steps′ j 0 ≡ getD steps j 0
+
+-- the way to q is entered, and has r actions with those passed before
+abbrev pub WayEntered : Study → ℕ → ℕ → ℕ → List ℕ → List ℕ → ℕ → Type 0
+WayEntered t v q passed steps steps′ r =
+    (list : List ℕ) × (Way t v q list × ((length list + passed ≡ r) × Enters t v list steps steps′))
+
+-- every way to q passes more than `left` values
+abbrev pub NoWayWithin : Study → ℕ → ℕ → ℕ → Type 0
+NoWayWithin t v q left = (list : List ℕ) → Way t v q list → left < length list
+
+-- what a trace answers where it broke off or came round
+abbrev pub noWalk : ℕ
+noWalk = 255
+
+-- a trace from q that may pass `left` more values: it entered the way, or there is none that short
+abbrev pub Traces : Study → ℕ → ℕ → ℕ → ℕ → List ℕ → List ℕ → ℕ → Type 0
+Traces t v q left passed steps steps′ r =
+    (r ≢ noWalk → WayEntered t v q passed steps steps′ r) × (r ≡ noWalk → NoWayWithin t v q left)
 
 -- the rows of the first m variables hold their walks
 abbrev pub Rowed : Study → ℕ → List ℕ → Type 0

@@ -1,23 +1,21 @@
 // Walks, traced from the goal value back.
 ghost use mathlib.Core.Path.{_≡_};
+ghost use mathlib.Core.Logic.{_≢_};
 ghost use mathlib.Core.List.{List};
-ghost use Prim.Native.Nat.{ℕ, _+_, _*_, _≤_, _<_};
-ghost use lib.ListN.{length, getD};
+ghost use Prim.Native.Nat.{ℕ, _+_, _≤_, _<_};
+ghost use lib.ListN.{length};
 ghost use Rattle.study.specs.Study.{Study};
 ghost use Rattle.walks.specs.Walks.{startOf, goalOf};
 ghost use Rattle.planner.specs.Facts.{Moves, Tells};
-ghost use Rattle.planner.specs.Rows.{SetterIs, Short, Traces, EmptyRow, WalksAll};
+ghost use Rattle.planner.specs.Rows.{SetterIs, noWalk, Traces, EmptyRow, WalksAll};
+
+// A trace's answer where it broke off or came round.
+const NO_WALK: u8 = 255;
 
 // The action that sets a variable to a value, or that none does.
 pub(crate) enum Named {
     Is(usize),
     Nobody,
-}
-
-// A trace that met the start, with the number of its actions; or one that broke off or came round.
-pub(crate) enum Traced {
-    Found(usize),
-    Broken,
 }
 
 // Every variable has a walk, with the number of all their actions; or the lowest variable that has none.
@@ -55,61 +53,55 @@ fn setter(
     Named::Nobody
 }
 
-// Traces variable v from value q back to its start, and enters in steps, for each value on the walk, 2 more than the
-// action that leaves it, or 1 at the end. At most left more values may be passed.
+// Traces variable v from value q back to its start, and enters in steps, for each value that the trace comes to, 2 more
+// than the action that leaves it. Answers how many actions the walk has, `passed` of them before, or `NO_WALK` if it broke
+// off or came round. At most left more values may be passed.
 fn trace(
     v: usize,
     start: u8,
     q: u8,
     left: u8,
+    passed: u8,
     actions: usize,
     setters: &[u8; 512],
     vars: &[u8; 256],
     pres: &[u8; 256],
     posts: &[u8; 256],
     steps: &mut [u16; 512],
-) -> Traced
-    requires { ⌜ (v < 32) × (start < 16) × (q < 16) × (length (now steps) ≡ 512)
+) -> u8
+    requires { ⌜ (v < 32) × (q < 16) × (left + passed < noWalk) × (length (now steps) ≡ 512)
         × ((t : Study) × Moves actions (now setters) (now vars) (now pres) (now posts) t) ⌝ }
-    ensures { λ r. ⌜ (length (now (steps .exit)) ≡ 512) × Short left r ⌝ }
+    ensures { λ r. ⌜ (length (now (steps .exit)) ≡ 512) × (r ≢ noWalk → r ≤ left + passed) ⌝ }
     ensures { λ r. ⌜ ((t : Study)
         → Moves actions (now (setters .entry)) (now (vars .entry)) (now (pres .entry)) (now (posts .entry)) t
         → startOf t v ≡ start
-        → EmptyRow v (now (steps .entry))
-        → Traces t v q left (now (steps .entry)) (now (steps .exit)) r) ⌝ }
+        → Traces t v q left passed (now (steps .entry)) (now (steps .exit)) r) ⌝ }
 {
-    let here = 16 * v + wide(q);
     if q == start {
-        steps[here] = 1;
-        return Traced::Found(0);
+        return passed;
     }
     if left == 0 {
-        return Traced::Broken;
+        return NO_WALK;
     }
     let found = setter(setters, vars, posts, actions, v, q);
     let Named::Is(i) = found else {
-        return Traced::Broken;
+        return NO_WALK;
     };
     let pre = pres[i];
-    let traced = trace(
+    steps[16 * v + wide(pre)] = (i + 2) as u16;
+    trace(
         v,
         start,
         pre,
         left - 1,
+        passed + 1,
         actions,
         setters,
         vars,
         pres,
         posts,
         steps,
-    );
-    let Traced::Found(n) = traced else {
-        return Traced::Broken;
-    };
-    let there = 16 * v + wide(pre);
-    steps[there] = (i + 2) as u16;
-    steps[here] = 1;
-    Traced::Found(n + 1)
+    )
 }
 
 pub(crate) fn walk_all(
@@ -141,11 +133,14 @@ pub(crate) fn walk_all(
     let mut total = 0;
     let mut v = 0;
     while v < n {
+        let goal = goals[v];
+        steps[16 * v + wide(goal)] = 1;
         let traced = trace(
             v,
             starts[v],
-            goals[v],
+            goal,
             16,
+            0,
             actions,
             setters,
             vars,
@@ -153,10 +148,10 @@ pub(crate) fn walk_all(
             posts,
             steps,
         );
-        let Traced::Found(k) = traced else {
+        if traced == NO_WALK {
             return Walked::NoWalk(v);
-        };
-        total += k;
+        }
+        total += wide(traced);
         v += 1;
     }
     Walked::All(total)

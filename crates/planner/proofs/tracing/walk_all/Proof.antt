@@ -1,11 +1,12 @@
 -- `planner::tracing::walk_all` meets its contract: each turn enters one more walk, and keeps `Underway`.
 -- Assumes nothing.
 use mathlib.Core.Path.{_≡_}
-use Prim.Native.Nat.{_-_, _≤_}
+use Prim.Native.Nat.{_+_, _-_, _*_, _≤_, _<_}
 use native.Mathlib.Omega.{arith}
+use lib.ListN.{getD, length-set}
 use denote.Ref.{now}
 use borrow.Author.Needs.{needs}
-use Rattle.planner.proofs.Ranges.{few-tasks, told-start-small, told-goal-small}
+use Rattle.planner.proofs.Ranges.{few-tasks, told-goal-small}
 use Rattle.planner.proofs.WalksEntered.{none-entered, all-entered}
 use Rattle.planner.proofs.Rounds.{Underway, goes-on, stops}
 use Rattle.planner.proofs.tracing.walk_all.Statement.{statement}
@@ -30,52 +31,67 @@ loop-holds c =
       entered = λ t told. none-entered t _ (told .empty);
     }
 
-element-copy-out-trace : tie.Need-element-copy-out-trace Inv-loop μ-loop
-element-copy-out-trace c = omega (arith, c .loop-test .taken, few (c .before .before))
+low : (i : tie.In-loop Inv-loop μ-loop) → i .before .loop .v < 32
+low i = omega (arith, i .loop-test .taken, few (i .before .before))
 
-element-copy-out-trace-2 : tie.Need-element-copy-out-trace-2 Inv-loop μ-loop
-element-copy-out-trace-2 c = element-copy-out-trace (c .before)
+goal-low : (i : tie.In-loop Inv-loop μ-loop) → getD (now (i .before .before .args .goals)) (i .before .loop .v) 0 < 16
+goal-low i =
+    let s = i .before .before in
+    let (l, (t, moves, count, starts, goals)) = s .pre in
+    told-goal-small (moves .lawful) count (now (s .args .goals)) goals _ (i .loop-test .taken)
+
+element-copy-out-goal : tie.Need-element-copy-out-goal Inv-loop μ-loop
+element-copy-out-goal c = low c
+
+mul-steps : tie.Need-mul-steps Inv-loop μ-loop
+mul-steps c = omega (arith, low (c .before))
+
+wide-requires : tie.Need-wide-requires Inv-loop μ-loop
+wide-requires c κs = search needs
+
+-- where the goal's entry is put
+inside : (w : tie.After-wide Inv-loop μ-loop) → 16 * w .before .before .before .loop .v + w .wide .result < 512
+inside w = let i = w .before .before in omega (arith, low i, goal-low i, w .wide .ensures .0)
+
+add-steps : tie.Need-add-steps Inv-loop μ-loop
+add-steps c = omega (arith, inside c)
+
+mul-steps-2 : tie.Need-mul-steps-2 Inv-loop μ-loop
+mul-steps-2 c = omega (arith, inside c)
+
+element-write-steps : tie.Need-element-write-steps Inv-loop μ-loop
+element-write-steps c = inside c
+
+element-copy-out-trace : tie.Need-element-copy-out-trace Inv-loop μ-loop
+element-copy-out-trace c = low (c .before .before)
 
 trace-requires : tie.Need-trace-requires Inv-loop μ-loop
 trace-requires c κs =
-    let i = c .before .before .before in
-    let s = i .before .before in
-    let (l, (t, moves, count, starts, goals)) = s .pre in
-    let h = i .loop-test .taken in (
-      element-copy-out-trace i,
-      told-start-small (moves .lawful) count (now (s .args .starts)) starts _ h,
-      told-goal-small (moves .lawful) count (now (s .args .goals)) goals _ h,
-      i .before .loop .inv .sized,
-      (t, moves),
-    )
-
-enum-known-traced : tie.Need-enum-known-traced Inv-loop μ-loop
-enum-known-traced c = search needs
-
-enum-told : tie.Need-enum-told Inv-loop μ-loop
-enum-told c = search needs
+    let i = c .before .before .before .before in
+    let (l, (t, moves, count, starts, goals)) = i .before .before .pre in
+    (low i, goal-low i, omega arith, simp length-set (i .before .loop .inv .sized), (t, moves))
 
 returns : tie.Need-returns Inv-loop μ-loop
 returns c =
-    let a = c .before .before in
-    let i = a .before .before .before .before in (
+    let a = c .before in
+    let w = a .before .before .before in
+    let i = w .before .before in (
       a .trace .ensures .0 .0,
       λ t moves count starts goals empty.
-          stops (i .before .loop .inv) (i .loop-test .taken) _ (rw (c .enum-told .given .1) at (a .trace .ensures)) t
+          stops (i .before .loop .inv) (i .loop-test .taken) _ (rw (w .wide .ensures .0) at (a .trace .ensures)) (c .if1 .taken) t
           (record { moves = moves; count = count; tells-start = starts; tells-goal = goals; empty = empty }),
     )
 
+wide-requires-2 : tie.Need-wide-requires-2 Inv-loop μ-loop
+wide-requires-2 c κs = search needs
+
 add-total : tie.Need-add-total Inv-loop μ-loop
 add-total c =
-    let a = c .before .before .before in
-    let i = a .before .before .before .before in
-    let (l, s) = (rw (c .before .traced .given .1) at (a .trace .ensures .0)) in
-    omega (arith, s, i .before .loop .inv .few, i .loop-test .taken, few (i .before .before))
+    let i = c .before .before .before .before .before .before .before in
+    omega (arith, c .wide2 .ensures .1, i .before .loop .inv .few, i .loop-test .taken, few (i .before .before))
 
 add-v : tie.Need-add-v Inv-loop μ-loop
-add-v c =
-    let i = c .before .before .before .before .before .before .before in
-    omega (arith, i .loop-test .taken, few (i .before .before))
+add-v c = omega (arith, low (c .before .before .before .before .before .before .before))
 
 loop-less : tie.Need-loop-less Inv-loop μ-loop
 loop-less c =
@@ -84,9 +100,11 @@ loop-less c =
 
 loop-again : tie.Need-loop-again Inv-loop μ-loop
 loop-again c =
-    let a = c .before .before .before in
-    let i = a .before .before .before .before in
-    goes-on (i .before .loop .inv) (i .loop-test .taken) _ (rw (c .before .traced .given .1) at (a .trace .ensures))
+    let a = c .before .before in
+    let w = a .before .before .before in
+    let i = w .before .before in
+    rw (c .wide2 .ensures .0)
+    (goes-on (i .before .loop .inv) (i .loop-test .taken) _ (rw (w .wide .ensures .0) at (a .trace .ensures)) (c .before .if1 .left))
 
 returns-2 : tie.Need-returns-2 Inv-loop μ-loop
 returns-2 c =
@@ -105,12 +123,16 @@ walk-all-spec =
     Inv-loop
     μ-loop
     loop-holds
+    element-copy-out-goal
+    mul-steps
+    wide-requires
+    add-steps
+    mul-steps-2
+    element-write-steps
     element-copy-out-trace
-    element-copy-out-trace-2
     trace-requires
-    enum-known-traced
-    enum-told
     returns
+    wide-requires-2
     add-total
     add-v
     loop-less
