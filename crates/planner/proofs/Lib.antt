@@ -17,8 +17,12 @@ pub mod Outcomes
 pub mod Stages
 pub mod Drawing
 pub mod Lowering
+pub mod KeyTables
+pub mod Keys
+pub mod Freed
+pub mod KeyRounds
 pub mod Looking
-pub mod Choosing
+pub mod Waiting
 pub mod Holding
 pub mod Lowered
 pub mod StillWanted

@@ -1,18 +1,32 @@
--- A look at a variable's next action: what keeps it in range, what it answers, and that what it notes is right.
+-- A look at a variable's next action: what keeps it in range, and that what it notes is right.
 -- Assumes nothing.
-use mathlib.Core.Path.{_≡_, refl}
-use mathlib.Core.Logic.{_≢_}
+use mathlib.Core.Path.{_≡_, refl, _∙_}
 use mathlib.Core.List.{List}
 use Prim.Native.Nat.{ℕ, _+_, _-_, _*_, _≤_, _<_}
 use native.Mathlib.Omega.{arith}
 use native.Mathlib.Decide.{ℕ-discrete, decLt}
 use lib.ListN.{length, getD, set, length-set}
 use lib.Seq.{getD-set-same, getD-set-other}
-use Rattle.planner.specs.declared.taking.Choice.the-variants.{Action, Nothing}
-use Rattle.planner.specs.Taking.{Readable, HoldUpTo, FirstOpen, stepOf, Sound, HeldRight, Looked, Noted}
+use Rattle.planner.specs.Taking.{Readable, HoldUpTo, FirstOpen, stepOf, Sound, HeldRight, Noted, Guarded}
 
 pub notes-same : (file places manys steps state held : List ℕ) → Noted file places manys steps state held held
 notes-same file places manys steps state held = record { long = refl; right = λ v h. h }
+
+pub noted-again :
+    {file places manys steps state held held′ held″ : List ℕ}
+    → Noted file places manys steps state held held′ → Noted file places manys steps state held′ held″ → Noted file places manys steps state held held″
+noted-again a b = record { long = b .long ∙ a .long; right = λ v h. b .right v (a .right v h) }
+
+-- a look is as well guarded after others
+module _ {file places manys steps state : List ℕ} {a n : ℕ} {held : List ℕ} (guarded : Guarded file places manys steps state a n held) {v : ℕ} (b : v < n) where
+  pub guarded-sound : Sound file places manys steps state 256 v
+  guarded-sound =
+      let s = guarded .sound v b in
+      record {
+        there = s .there;
+        narrow = s .narrow;
+        next = λ i e. (omega (arith, s .next i e .0, guarded .few), s .next i e .1);
+      }
 
 module _ {file places manys steps state : List ℕ} {v : ℕ} (sound : Sound file places manys steps state 256 v) (r : ℕ) (is : r ≡ getD state v 0) where
   -- the next action, where there is one
@@ -34,13 +48,6 @@ module _ {file places manys steps state : List ℕ} {v : ℕ} (sound : Sound fil
       go (yes h) = omega arith
       go (no h) = omega (arith, next-there (omega arith))
 
-  -- none is ready where there is no next, where the value is wanted, where a condition does not hold
-  pub none-next : (wants : List ℕ) → getD steps (16 * v + r) 0 < 2 → Looked file places manys steps wants state v Nothing
-  none-next wants h i looks = let e = rw (← is) at (looks .next) in omega arith
-
-  pub still-wanted : (wants : List ℕ) → getD wants (16 * v + r) 0 ≢ 0 → Looked file places manys steps wants state v Nothing
-  still-wanted wants h i looks = h (rw is (looks .unwanted))
-
   module _ (many : 2 ≤ getD steps (16 * v + r) 0) (k from : ℕ)
       (first : FirstOpen file (getD places (getD steps (16 * v + r) 0 - 2) 0) (getD manys (getD steps (16 * v + r) 0 - 2) 0) state from k) where
     abbrev next : ℕ
@@ -48,18 +55,6 @@ module _ {file places manys steps state : List ℕ} {v : ℕ} (sound : Sound fil
 
     one-next : (i : ℕ) → stepOf steps state v ≡ i + 2 → i ≡ next
     one-next i e = omega (arith, next-is many)
-
-    pub still-open : (wants : List ℕ) → k < getD manys next 0 → Looked file places manys steps wants state v Nothing
-    still-open wants h i looks = first .fails h (rw (one-next i (looks .next)) at (looks .hold) k h)
-
-    pub looks-ready :
-        (wants : List ℕ) → HoldUpTo file (getD places next 0) state from
-        → getD wants (16 * v + r) 0 ≡ 0 → getD manys next 0 ≤ k → Looked file places manys steps wants state v (Action next)
-    looks-ready wants hold none all = record {
-      next = next-is many;
-      unwanted = rw (← is) none;
-      hold = λ j h. first .hold hold j (omega arith);
-    }
 
     -- what was found to hold is noted
     pub notes-more :

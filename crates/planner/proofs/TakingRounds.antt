@@ -2,9 +2,10 @@
 -- Assumes nothing.
 use mathlib.Core.Path.{_≡_, refl, sym, _∙_}
 use mathlib.Core.List.{List, []}
-use Prim.Native.Nat.{ℕ, _+_, _≤_, _<_}
+use Prim.Native.Nat.{ℕ, _+_, _-_, _*_, _≤_, _<_}
 use native.Mathlib.Numerals.{add-one}
 use native.Mathlib.Omega.{arith}
+use native.Mathlib.Decide.{decLt}
 use lib.ListN.{length, getD, set, take, replicate, length-set, getD-replicate}
 use lib.Seq.{ext-getD, getD-take, length-take-le, take-suc-set}
 use Rattle.study.specs.Study.{Study}
@@ -20,7 +21,12 @@ use Rattle.walks.proofs.Leads.{on-walk-usable}
 use Rattle.walks.proofs.Straight.{kept-first}
 use Rattle.planner.specs.Wanting.{wanted}
 use Rattle.planner.specs.declared.taking.Choice.the-variants.{Action, Nothing}
-use Rattle.planner.specs.Taking.{Prepared, TakenGreedily, Readable, Lowerable, loweredAll, Noted, Chosen, Guarded}
+use Rattle.planner.specs.Taking.{Prepared, TakenGreedily, Readable, Lowerable, loweredAll, stepOf, LooksReady, Noted, Chosen, Guarded}
+use Rattle.planner.specs.Keys.{nextKey, openKey, freedAll, Roused, Keyed}
+use Rattle.planner.proofs.Conditions.{stands-here}
+use Rattle.planner.proofs.Keys.{Bytes}
+use Rattle.planner.proofs.Freed.{all-freed-length}
+use Rattle.planner.proofs.KeyRounds.{keyed-goes-on}
 use Rattle.planner.proofs.Holding.{stand-readable}
 use Rattle.planner.proofs.Lowered.{lowered-length}
 use Rattle.planner.proofs.StillWanted.{Part}
@@ -108,6 +114,9 @@ module _ {file ranks : List ℕ} {n total : ℕ} {vars posts places manys steps 
   abbrev Prep : Study → Type 0
   Prep t = Prepared file n (length ranks) total vars posts places manys steps wants₀ state₀ t
 
+  pub few-variables : n ≤ 32
+  few-variables = let (t, prep) = under .some in few prep
+
   -- each look is guarded
   pub guards : Guarded file places manys steps state (length ranks) n held
   guards = let (t, prep) = under .some in from prep (under .going t prep)
@@ -127,6 +136,14 @@ module _ {file ranks : List ℕ} {n total : ℕ} {vars posts places manys steps 
         few = omega (arith, prep .deeds .actions, prep .deeds .lawful .few-actions);
         long = under .held-long;
       }
+
+  -- a variable's next action has a rank
+  pub has-rank : (v : ℕ) → v < n → (v < 32) × (getD state v 0 < 16) × (stepOf steps state v < length ranks + 2)
+  has-rank v h = (guards .sound v h .there, guards .sound v h .narrow, go (decLt (stepOf steps state v) 2))
+    where
+      go : Dec (stepOf steps state v < 2) → stepOf steps state v < length ranks + 2
+      go (yes b) = omega arith
+      go (no b) = omega (arith, guards .sound v h .next (stepOf steps state v - 2) (omega arith) .0)
 
   pub notes : {held′ : List ℕ} → Noted file places manys steps state held held′ → Underway file ranks n total vars posts places manys steps wants₀ state₀ wants state out held′ k
   notes noted = record {
@@ -189,6 +206,42 @@ module _ {file ranks : List ℕ} {n total : ℕ} {vars posts places manys steps 
 
     pub chosen-var : getD vars i 0 < 32
     chosen-var = let (t, prep) = under .some in omega (arith, own-var prep, few prep, prep .variables, chosen-ready prep .is-member .there)
+
+    pub chosen-within : getD vars i 0 < n
+    chosen-within = let (t, prep) = under .some in omega (arith, own-var prep, prep .variables, chosen-ready prep .is-member .there)
+
+    chosen-looks : LooksReady file places manys steps wants state (getD vars i 0) i
+    chosen-looks = let (t, prep) = under .some in rw (own-var prep) (is-so-looks prep (under .going t prep) (chosen-ready prep))
+
+    chosen-narrow : (j : ℕ) → j < getD manys i 0 → getD file (getD places i 0 + 3 * j + 2) 0 < 16
+    chosen-narrow j h =
+        let (t, prep) = under .some in
+        let here = stands-here (action-stands prep i (chosen-ready prep .is-member)) (getD places i 0 + 3 * j) j refl h in
+        omega (arith, here .value, here .narrow)
+
+    pub keys-stay-long :
+        {full keys waits awaited : List ℕ} → Keyed ranks file places manys steps wants state full keys waits awaited n → (w x : ℕ)
+        → length (set (freedAll file (getD places i 0) (getD manys i 0) wants full keys) w x) ≡ 32
+    keys-stay-long {full} {keys} keyed w x =
+        length-set (freedAll file (getD places i 0) (getD manys i 0) wants full keys) w x
+        ∙ all-freed-length file (getD places i 0) (getD manys i 0) wants full keys ∙ keyed .keys-long
+
+    -- the keys tell the next state too
+    pub keys-go-on :
+        {full keys waits awaited keys′ awaited′ : List ℕ}
+        → Keyed ranks file places manys steps wants state full keys waits awaited n → Bytes ranks
+        → Roused (getD vars i 0) (set waits (getD vars i 0) 255)
+        (set full (getD vars i 0) (nextKey ranks steps (set state (getD vars i 0) (getD posts i 0)) (getD vars i 0)))
+        (set (freedAll file (getD places i 0) (getD manys i 0) wants full keys) (getD vars i 0)
+        (openKey ranks steps (loweredAll file (getD places i 0) (getD manys i 0) wants) (set state (getD vars i 0) (getD posts i 0)) (getD vars i 0)))
+        keys′ awaited awaited′
+        → Keyed ranks file places manys steps (loweredAll file (getD places i 0) (getD manys i 0) wants) (set state (getD vars i 0) (getD posts i 0))
+        (set full (getD vars i 0) (nextKey ranks steps (set state (getD vars i 0) (getD posts i 0)) (getD vars i 0)))
+        keys′ (set waits (getD vars i 0) 255) awaited′ n
+    keys-go-on keyed small roused =
+        let (t, prep) = under .some in
+        keyed-goes-on keyed small (few prep) (under .wants-long) chosen-within chosen-looks chosen-lowerable chosen-narrow
+        (λ w h. guards .sound w h .narrow) (getD posts i 0) roused
 
     pub room-left : k < total → k < 256
     room-left h = let (t, prep) = under .some in omega (arith, total-few prep)

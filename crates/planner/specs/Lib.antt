@@ -2,5 +2,6 @@ pub mod Facts
 pub mod Rows
 pub mod Wanting
 pub mod Taking
+pub mod Keys
 pub mod Whole
 pub mod Seeded

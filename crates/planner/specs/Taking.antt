@@ -95,11 +95,6 @@ HeldRight file places manys steps state held v =
     (i : ℕ) → stepOf steps state v ≡ i + 2
     → (getD held v 0 ≤ getD manys i 0) × HoldUpTo file (getD places i 0) state (getD held v 0)
 
--- the next action of v, if it looks ready
-abbrev pub Looked : (file places manys steps wants state : List ℕ) → ℕ → Choice → Type 0
-Looked file places manys steps wants state v (Action i) = LooksReady file places manys steps wants state v i
-Looked file places manys steps wants state v Nothing = (i : ℕ) → LooksReady file places manys steps wants state v i → ⊥
-
 -- what was found to hold is noted, and the notes stay right
 pub record Noted (file places manys steps state held held′ : List ℕ) : Type 0 where
   pub long : length held′ ≡ length held

@@ -1,80 +1,197 @@
--- `planner::taking::best` meets its contract: each turn looks at one variable more and keeps the one of least rank.
+-- `planner::taking::best` meets its contract: each turn looks at who has the lowest key; if its next action is not ready, the key is lost.
 -- Assumes nothing.
-use mathlib.Core.Path.{_∙_}
-use mathlib.Core.Logic.{_⊎_, ⊎-elim}
-use Prim.Native.Nat.{_-_, _≤_}
+use mathlib.Core.Path.{refl}
 use native.Mathlib.Omega.{arith}
 use borrow.Author.Needs.{needs}
-use Rattle.planner.specs.Taking.{Noted}
-use Rattle.planner.proofs.Looking.{notes-same}
-use Rattle.planner.proofs.Choosing.{Choosing, choosing-starts, choosing-passes, choosing-keeps, choosing-takes, chosen-one, chosen-none, noted-again, guarded-sound, guarded-ranked}
+use Prim.Native.Nat.{_-_, _*_, _+_, _<_}
+use native.Mathlib.Nat.{mod-lt}
+use Rattle.planner.specs.Keys.{shut}
+use Rattle.planner.proofs.Keys.{slack, slack-falls}
+use Rattle.planner.proofs.Waiting.{Picking, picking-starts, picks-none, picked-narrow, picked-steps, picked-small, picked-there, picked-readable, picked-held, picks-ready, picks-again, picked-falls}
 use Rattle.planner.proofs.taking.best.Statement.{statement}
 use Rattle.planner.proofs.taking.best.Tie as tie
+use Rattle.planner.proofs.taking.best.Reads as reads
+use Rattle.planner.proofs.taking.best.Lts as lts
 
 abbrev Inv-loop : tie.InvT-loop
-Inv-loop file ranks n places manys steps wants state held₀ least₀ chosen₀ v₀ held least chosen v =
-    (v ≤ n) × Choosing ranks file places manys steps wants state least chosen v × Noted file places manys steps state held₀ held
+Inv-loop file places manys steps state held₀ keys₀ waits₀ awaited₀ held keys waits awaited =
+    Picking file places manys steps state held₀ keys₀ waits₀ awaited₀ held keys waits awaited
 
 abbrev μ-loop : tie.MeasureT-loop
-μ-loop file ranks n places manys steps wants state held₀ least₀ chosen₀ v₀ held least chosen v = n - v
+μ-loop file places manys steps state held₀ keys₀ waits₀ awaited₀ held keys waits awaited = slack keys
 
 loop-holds : tie.Need-loop-holds Inv-loop μ-loop
-loop-holds c = (omega arith, choosing-starts _ _ _ _ _ _ _, notes-same _ _ _ _ _ _)
+loop-holds c = picking-starts (c .before .pre)
 
-ready-requires : tie.Need-ready-requires Inv-loop μ-loop
-ready-requires c κs =
-    let l = c .before .before in
-    let s = l .before .before .before in
-    let t = c .before .loop-test .taken in
-    (guarded-sound (s .pre) t, l .loop .inv .2 .right _ (s .pre .right _ t), l .loop .inv .2 .long ∙ s .pre .long)
+least-requires : tie.Need-least-requires Inv-loop μ-loop
+least-requires c κs = search needs
 
-enum-known-r : tie.Need-enum-known-r Inv-loop μ-loop
-enum-known-r c = search needs
+returns : tie.Need-returns Inv-loop μ-loop
+returns c =
+    let l = c .before .before .before .loop .inv in
+    (picks-none l (c .before .least .ensures) (omega (arith, c .if1 .taken)), l .noted)
 
-shared-slice-read-wide : tie.Need-shared-slice-read-wide Inv-loop μ-loop
-shared-slice-read-wide c =
-    let k = c .before .before in
-    let y = k .before .before in
-    let l = y .before .before .before in
-    guarded-ranked (l .before .before .before .pre) (y .before .before .loop-test .taken) (rw (k .r .given .1) at (y .ready .ensures .0))
+-- there is a key, and its variable is one of 32
+some : (c : tie.Else1 Inv-loop μ-loop) → c .before .least .result < shut
+some c = omega (arith, c .if1 .left, c .before .least .ok)
+
+element-copy-out-wide : tie.Need-element-copy-out-wide Inv-loop μ-loop
+element-copy-out-wide c = mod-lt (c .before .least .result) {m = 32} (omega arith)
+
+cast-v : tie.Need-cast-v Inv-loop μ-loop
+cast-v c = omega (arith, element-copy-out-wide c)
+
+mul-i : tie.Need-mul-i Inv-loop μ-loop
+mul-i c = omega (arith, element-copy-out-wide c)
 
 wide-requires : tie.Need-wide-requires Inv-loop μ-loop
 wide-requires c κs = search needs
 
-enum-told : tie.Need-enum-told Inv-loop μ-loop
-enum-told c = search needs
+add-i : tie.Need-add-i Inv-loop μ-loop
+add-i c = omega (arith, element-copy-out-wide (c .before .before), c .wide .ensures .1)
 
-add-v : tie.Need-add-v Inv-loop μ-loop
-add-v c = omega arith
+mul-i-2 : tie.Need-mul-i-2 Inv-loop μ-loop
+mul-i-2 c = omega (arith, element-copy-out-wide (c .before .before), c .wide .ensures .1)
 
-loop-less : tie.Need-loop-less Inv-loop μ-loop
-loop-less c = omega arith
+element-copy-out-i : tie.Need-element-copy-out-i Inv-loop μ-loop
+element-copy-out-i c =
+    let e = c .before .before in
+    omega (arith, element-copy-out-wide e, picked-narrow (e .before .before .before .loop .inv) (e .before .least .ensures) (some e) _ (c .wide .ensures .0))
 
-loop-again : tie.Need-loop-again Inv-loop μ-loop
-loop-again c =
-    let y = c .before in
-    let l = y .before .before .before in (
-      omega arith,
-      ⊎-elim
-          (λ w. rw (w .6, w .7, w .4 .ensures .0)
-          (choosing-takes (l .loop .inv .1) (rw (w .1 .given .1) at (y .ready .ensures .0)) (rw (w .4 .ensures .0) at (w .5 .taken))))
-          (λ o. ⊎-elim
-          (λ w. rw (w .6, w .7) (choosing-keeps (l .loop .inv .1) (rw (w .1 .given .1) at (y .ready .ensures .0)) (rw (w .4 .ensures .0) at (w .5 .left))))
-          (λ w. rw (w .2, w .3) (choosing-passes (l .loop .inv .1) (rw (w .1 .given .1) at (y .ready .ensures .0))))
-          o)
-          (c .match .came),
-      noted-again (l .loop .inv .2) (y .ready .ensures .1),
-    )
+cast-i : tie.Need-cast-i Inv-loop μ-loop
+cast-i c =
+    let w = c .before in
+    let e = w .before .before in
+    omega (arith, picked-small (e .before .before .before .loop .inv) (e .before .least .ensures) (some e) _ (w .wide .ensures .0))
 
-returns : tie.Need-returns Inv-loop μ-loop
-returns c =
-    let l = c .before .before in
-    (chosen-one (l .loop .inv .1) (l .loop .inv .0) (c .before .loop-test .left) (c .if2 .taken), l .loop .inv .2)
+sub-i : tie.Need-sub-i Inv-loop μ-loop
+sub-i c =
+    let w = c .before in
+    let e = w .before .before in
+    picked-steps (e .before .before .before .loop .inv) (e .before .least .ensures) (some e) _ (w .wide .ensures .0)
+
+element-copy-out-place : tie.Need-element-copy-out-place Inv-loop μ-loop
+element-copy-out-place c =
+    let w = c .before in
+    let e = w .before .before in
+    picked-there (e .before .before .before .loop .inv) (e .before .least .ensures) (some e) _ (w .wide .ensures .0)
+
+mul-place : tie.Need-mul-place Inv-loop μ-loop
+mul-place c = omega (arith, element-copy-out-place c)
+
+cast-place : tie.Need-cast-place Inv-loop μ-loop
+cast-place c =
+    let w = c .before .before in
+    let e = w .before .before in
+    omega (arith, picked-readable (e .before .before .before .loop .inv) (e .before .least .ensures) (some e) _ (w .wide .ensures .0) .room)
+
+element-copy-out-count-held : tie.Need-element-copy-out-count-held Inv-loop μ-loop
+element-copy-out-count-held c = element-copy-out-place (c .before)
+
+element-copy-out-count-held-2 : tie.Need-element-copy-out-count-held-2 Inv-loop μ-loop
+element-copy-out-count-held-2 c = element-copy-out-wide (c .before .before .before .before .before)
+
+count-held-requires : tie.Need-count-held-requires Inv-loop μ-loop
+count-held-requires c κs =
+    let w = c .before .before .before .before in
+    let e = w .before .before in
+    let i = e .before .before .before .loop .inv in
+    (picked-readable i (e .before .least .ensures) (some e) _ (w .wide .ensures .0), picked-held i (e .before .least .ensures) (some e) _ (w .wide .ensures .0))
+
+element-copy-out-if2 : tie.Need-element-copy-out-if2 Inv-loop μ-loop
+element-copy-out-if2 c = element-copy-out-place (c .before .before .before .before)
 
 returns-2 : tie.Need-returns-2 Inv-loop μ-loop
 returns-2 c =
-    let l = c .before .before in
-    (chosen-none (l .loop .inv .1) (l .loop .inv .0) (c .before .loop-test .left) (c .if2 .left) (λ j. omega (arith, l .before .shared-slice-known2 .given j)), l .loop .inv .2)
+    let h = c .before .before in
+    let w = h .before .before .before .before .before in
+    let e = w .before .before in
+    let i = e .before .before .before .loop .inv in
+    (picks-ready i (e .before .least .ensures) (some e) _ (w .wide .ensures .0) _ (h .count-held .ensures) (c .if2 .taken), i .noted)
+
+wide-requires-2 : tie.Need-wide-requires-2 Inv-loop μ-loop
+wide-requires-2 c κs = search needs
+
+mul-on : tie.Need-mul-on Inv-loop μ-loop
+mul-on c = omega (arith, c .wide2 .ensures .1)
+
+add-on : tie.Need-add-on Inv-loop μ-loop
+add-on c =
+    let h = c .before .before .before in
+    let w = h .before .before .before .before .before in
+    let e = w .before .before in
+    omega (
+      arith,
+      picked-readable (e .before .before .before .loop .inv) (e .before .least .ensures) (some e) _ (w .wide .ensures .0) .room,
+      c .wide2 .ensures .0,
+      c .before .if2 .left,
+    )
+
+add-on-2 : tie.Need-add-on-2 Inv-loop μ-loop
+add-on-2 c =
+    let h = c .before .before .before in
+    let w = h .before .before .before .before .before in
+    let e = w .before .before in
+    omega (
+      arith,
+      picked-readable (e .before .before .before .loop .inv) (e .before .least .ensures) (some e) _ (w .wide .ensures .0) .room,
+      c .wide2 .ensures .0,
+      c .before .if2 .left,
+    )
+
+shared-slice-read-on : tie.Need-shared-slice-read-on Inv-loop μ-loop
+shared-slice-read-on c =
+    let x = c .before in
+    let h = x .before .before .before in
+    let w = h .before .before .before .before .before in
+    let e = w .before .before in
+    omega (
+      arith,
+      picked-readable (e .before .before .before .loop .inv) (e .before .least .ensures) (some e) _ (w .wide .ensures .0) .room,
+      x .wide2 .ensures .0,
+      x .before .if2 .left,
+    )
+
+element-write-held : tie.Need-element-write-held Inv-loop μ-loop
+element-write-held c = element-copy-out-wide (c .before .before .before .before .before .before .before .before .before .before .before)
+
+mul-keys : tie.Need-mul-keys Inv-loop μ-loop
+mul-keys c = omega (arith, element-write-held c)
+
+element-write-keys : tie.Need-element-write-keys Inv-loop μ-loop
+element-write-keys c = element-write-held c
+
+element-write-waits : tie.Need-element-write-waits Inv-loop μ-loop
+element-write-waits c = element-write-held c
+
+wide-requires-3 : tie.Need-wide-requires-3 Inv-loop μ-loop
+wide-requires-3 c κs = search needs
+
+element-write-awaited : tie.Need-element-write-awaited Inv-loop μ-loop
+element-write-awaited c =
+    let x = c .before .before in
+    let h = x .before .before .before in
+    let w = h .before .before .before .before .before in
+    let e = w .before .before in
+    rw (c .wide3 .ensures .0, x .wide2 .ensures .0)
+    (picked-readable (e .before .before .before .loop .inv) (e .before .least .ensures) (some e) _ (w .wide .ensures .0) .var _ (x .before .if2 .left))
+
+loop-less : tie.Need-loop-less Inv-loop μ-loop
+loop-less c =
+    let x = c .before .before in
+    let h = x .before .before .before in
+    let w = h .before .before .before .before .before in
+    let e = w .before .before in
+    picked-falls (e .before .before .before .loop .inv) (e .before .least .ensures) (some e) _ (w .wide .ensures .0) _ (h .count-held .ensures)
+
+loop-again : tie.Need-loop-again Inv-loop μ-loop
+loop-again c =
+    let x = c .before .before in
+    let h = x .before .before .before in
+    let w = h .before .before .before .before .before in
+    let e = w .before .before in
+    rw (c .wide3 .ensures .0)
+    (picks-again (e .before .before .before .loop .inv) (e .before .least .ensures) (some e) _ (w .wide .ensures .0) _ (h .count-held .ensures) _ (rw (x .wide2 .ensures .0) refl) (x .before .if2 .left))
 
 pub best-spec : {M : Type 1} → statement M
 best-spec =
@@ -83,13 +200,35 @@ best-spec =
     Inv-loop
     μ-loop
     loop-holds
-    ready-requires
-    enum-known-r
-    shared-slice-read-wide
-    wide-requires
-    enum-told
-    add-v
-    loop-less
-    loop-again
+    least-requires
     returns
-    returns-2)
+    cast-v
+    mul-i
+    element-copy-out-wide
+    wide-requires
+    add-i
+    mul-i-2
+    element-copy-out-i
+    cast-i
+    sub-i
+    mul-place
+    element-copy-out-place
+    cast-place
+    element-copy-out-count-held
+    element-copy-out-count-held-2
+    count-held-requires
+    element-copy-out-if2
+    returns-2
+    wide-requires-2
+    mul-on
+    add-on
+    add-on-2
+    shared-slice-read-on
+    element-write-held
+    mul-keys
+    element-write-keys
+    element-write-waits
+    wide-requires-3
+    element-write-awaited
+    loop-less
+    loop-again)

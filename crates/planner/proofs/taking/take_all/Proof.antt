@@ -1,24 +1,47 @@
--- `planner::taking::take_all` meets its contract: each round takes one ready action of least rank and keeps `Underway`.
+-- `planner::taking::take_all` meets its contract: each round takes one ready action of least rank and keeps `Underway`, and the keys tell the state.
 -- Assumes nothing.
+use mathlib.Core.Path.{refl}
 use Prim.Native.Nat.{_-_}
 use native.Mathlib.Omega.{arith}
+use denote.Ref.{now}
 use borrow.Author.Needs.{needs}
-use Rattle.planner.proofs.TakingRounds.{Underway, begins, guards, notes, ends-stuck, ends-all, chosen-below, chosen-readable, chosen-lowerable, chosen-var, room-left, goes-on}
+use Rattle.planner.specs.Keys.{Keyed}
+use Rattle.planner.proofs.Keys.{Bytes}
+use Rattle.planner.proofs.KeyRounds.{keyed-begins}
+use Rattle.planner.proofs.TakingRounds.{Underway, begins, few-variables, guards, has-rank, notes, ends-stuck, ends-all, chosen-below, chosen-readable, chosen-lowerable, chosen-var, chosen-within, room-left, goes-on, keys-stay-long, keys-go-on}
 use Rattle.planner.proofs.taking.take_all.Statement.{statement}
 use Rattle.planner.proofs.taking.take_all.Tie as tie
 
 abbrev Inv-loop : tie.InvT-loop
-Inv-loop file ranks n total vars posts places manys steps wants₀ state₀ out₀ held₀ k₀ wants state out held k =
+Inv-loop file ranks n total vars posts places manys steps wants₀ state₀ out₀ held₀ full₀ keys₀ waits₀ awaited₀ k₀ wants state out held full keys waits awaited k =
     Underway file ranks n total vars posts places manys steps wants₀ state₀ wants state out held k
+    × Keyed ranks file places manys steps wants state full keys waits awaited n
+    × Bytes ranks
 
 abbrev μ-loop : tie.MeasureT-loop
-μ-loop file ranks n total vars posts places manys steps wants₀ state₀ out₀ held₀ k₀ wants state out held k = total - k
+μ-loop file ranks n total vars posts places manys steps wants₀ state₀ out₀ held₀ full₀ keys₀ waits₀ awaited₀ k₀ wants state out held full keys waits awaited k =
+    total - k
+
+enter-all-requires : tie.Need-enter-all-requires Inv-loop μ-loop
+enter-all-requires c κs =
+    let s = c .before .before .before .before .before .before in
+    let p = s .pre in
+    let u = begins {ranks = now (s .args .ranks)} {out = now (s .args .out)} (p .0) (p .1) (p .2) (p .3) in
+    (few-variables u, refl, refl, guards u .few, λ v h. let r = has-rank u v h in (r .1, r .2))
 
 loop-holds : tie.Need-loop-holds Inv-loop μ-loop
-loop-holds c = let p = c .before .before .pre in begins (p .0) (p .1) (p .2) (p .3)
+loop-holds c =
+    let k = c .before .before .before .before .before in
+    let s = k .before .before in
+    let p = s .pre in
+    let u = begins {ranks = now (s .args .ranks)} {out = now (s .args .out)} (p .0) (p .1) (p .2) (p .3) in
+    let small : Bytes (now (s .args .ranks)) = λ j. omega (arith, k .shared-slice-known2 .given j) in
+    (u, keyed-begins small (few-variables u) (c .enter-all .ensures), small)
 
 best-requires : tie.Need-best-requires Inv-loop μ-loop
-best-requires c κs = guards (c .before .before .before .before .loop .inv)
+best-requires c κs =
+    let l = c .before .before .before .before .before .before in
+    (_, _, _, _, guards (l .loop .inv .0), l .loop .inv .1)
 
 enum-known-next : tie.Need-enum-known-next Inv-loop μ-loop
 enum-known-next c = search needs
@@ -29,14 +52,16 @@ enum-told c = search needs
 returns : tie.Need-returns Inv-loop μ-loop
 returns c =
     let y = c .before .before in
-    let l = y .before .before .before .before .before in
-    ((l .loop .inv .within, l .loop .inv .out-long), ends-stuck (l .loop .inv) (rw (c .enum-told .given .1) at (y .best .ensures .0)))
+    let l = y .before .before .before .before .before .before .before in
+    let u = l .loop .inv .0 in
+    ((u .within, u .out-long), ends-stuck u (rw (c .enum-told .given .1) at (y .best .ensures .0 _ _ _ _ (guards u) (l .loop .inv .1) .0)))
 
 element-copy-out-unwant : tie.Need-element-copy-out-unwant Inv-loop μ-loop
 element-copy-out-unwant c =
     let y = c .before .before .before in
-    let l = y .before .before .before .before .before in
-    chosen-below (l .loop .inv) (rw (c .before .next .given .1) at (y .best .ensures .0))
+    let l = y .before .before .before .before .before .before .before in
+    let u = l .loop .inv .0 in
+    chosen-below u (rw (c .before .next .given .1) at (y .best .ensures .0 _ _ _ _ (guards u) (l .loop .inv .1) .0))
 
 mul-unwant : tie.Need-mul-unwant Inv-loop μ-loop
 mul-unwant c = omega (arith, element-copy-out-unwant c)
@@ -45,69 +70,120 @@ cast-unwant : tie.Need-cast-unwant Inv-loop μ-loop
 cast-unwant c =
     let z = c .before .before in
     let y = z .before .before in
-    let l = y .before .before .before .before .before in
-    omega (arith, chosen-readable (l .loop .inv) (rw (z .next .given .1) at (y .best .ensures .0)) .room)
+    let l = y .before .before .before .before .before .before .before in
+    let u = l .loop .inv .0 in
+    omega (
+      arith,
+      chosen-readable u (rw (z .next .given .1) at (y .best .ensures .0 _ _ _ _ (guards u) (l .loop .inv .1) .0)) .room,
+      l .before .before .before .before .before .before .before .before .good .0,
+    )
 
 element-copy-out-unwant-2 : tie.Need-element-copy-out-unwant-2 Inv-loop μ-loop
 element-copy-out-unwant-2 c = element-copy-out-unwant (c .before)
 
 unwant-requires : tie.Need-unwant-requires Inv-loop μ-loop
 unwant-requires c κs =
-    let z = c .before .before .before .before in
+    let z = c .before .before .before .before .before .before in
     let y = z .before .before in
-    let l = y .before .before .before .before .before in
-    chosen-lowerable (l .loop .inv) (rw (z .next .given .1) at (y .best .ensures .0))
+    let l = y .before .before .before .before .before .before .before in
+    let u = l .loop .inv .0 in
+    chosen-lowerable u (rw (z .next .given .1) at (y .best .ensures .0 _ _ _ _ (guards u) (l .loop .inv .1) .0))
 
 element-copy-out-wide : tie.Need-element-copy-out-wide Inv-loop μ-loop
-element-copy-out-wide c = element-copy-out-unwant (c .before .before .before .before)
+element-copy-out-wide c = element-copy-out-unwant (c .before .before .before .before .before .before)
 
 wide-requires : tie.Need-wide-requires Inv-loop μ-loop
 wide-requires c κs = search needs
 
 element-copy-out-state : tie.Need-element-copy-out-state Inv-loop μ-loop
-element-copy-out-state c = element-copy-out-unwant (c .before .before .before .before .before .before)
+element-copy-out-state c = element-copy-out-wide (c .before .before)
 
 element-write-state : tie.Need-element-write-state Inv-loop μ-loop
 element-write-state c =
-    let z = c .before .before .before .before .before .before .before .before in
+    let z = c .before .before .before .before .before .before .before .before .before .before in
     let y = z .before .before in
-    let l = y .before .before .before .before .before in
-    omega (arith, c .before .wide .ensures .0, chosen-var (l .loop .inv) (rw (z .next .given .1) at (y .best .ensures .0)))
+    let l = y .before .before .before .before .before .before .before in
+    let u = l .loop .inv .0 in
+    omega (
+      arith,
+      c .before .wide .ensures .0,
+      chosen-var u (rw (z .next .given .1) at (y .best .ensures .0 _ _ _ _ (guards u) (l .loop .inv .1) .0)),
+    )
 
 array-write-held : tie.Need-array-write-held Inv-loop μ-loop
 array-write-held c = element-write-state c
 
+array-write-waits : tie.Need-array-write-waits Inv-loop μ-loop
+array-write-waits c = element-write-state c
+
+enter-requires : tie.Need-enter-requires Inv-loop μ-loop
+enter-requires c κs =
+    let w = c .before .before .before .before .before in
+    let z = w .before .before .before .before .before .before .before .before .before in
+    let y = z .before .before in
+    let l = y .before .before .before .before .before .before .before in
+    let u = notes (l .loop .inv .0) (y .best .ensures .1) in
+    let chosen = rw (z .next .given .1) at (y .best .ensures .0 _ _ _ _ (guards (l .loop .inv .0)) (l .loop .inv .1) .0) in
+    let after = goes-on u chosen (y .before .before .before .before .before .before .loop-test .taken) in
+    let r = has-rank after _ (chosen-within u chosen) in
+    rw (w .wide .ensures .0) (r .0, r .1, r .2, guards after .few)
+
+rouse-requires : tie.Need-rouse-requires Inv-loop μ-loop
+rouse-requires c κs =
+    let e = c .before .before .before .before in
+    let w = e .before .before .before .before .before .before in
+    let a = w .before .before in
+    let z = a .before .before .before .before .before .before .before in
+    let y = z .before .before in
+    let l = y .before .before .before .before .before .before .before in
+    let u = l .loop .inv .0 in
+    let best = y .best .ensures .0 _ _ _ _ (guards u) (l .loop .inv .1) in
+    let chosen = rw (z .next .given .1) at (best .0) in (
+      element-write-state (e .before .before .before .before .before),
+      rw (e .enter .ensures .1, a .unwant .ensures .1) (keys-stay-long u chosen (best .1) _ _),
+    )
+
 cast-out : tie.Need-cast-out Inv-loop μ-loop
-cast-out c = omega (arith, element-copy-out-state (c .before))
+cast-out c = omega (arith, element-copy-out-state (c .before .before .before .before .before .before .before .before .before .before .before))
 
 element-write-out : tie.Need-element-write-out Inv-loop μ-loop
 element-write-out c =
-    let z = c .before .before .before .before .before .before .before .before in
+    let z = c .before .before .before .before .before .before .before .before .before .before .before .before .before .before .before .before .before .before .before .before in
     let y = z .before .before in
-    let l = y .before .before .before .before .before in
-    room-left (l .loop .inv) (rw (z .next .given .1) at (y .best .ensures .0)) (y .before .before .before .before .loop-test .taken)
+    let l = y .before .before .before .before .before .before .before in
+    let u = l .loop .inv .0 in
+    room-left u (rw (z .next .given .1) at (y .best .ensures .0 _ _ _ _ (guards u) (l .loop .inv .1) .0)) (y .before .before .before .before .before .before .loop-test .taken)
 
 add-k : tie.Need-add-k Inv-loop μ-loop
 add-k c = omega (arith, element-write-out c)
 
 loop-less : tie.Need-loop-less Inv-loop μ-loop
 loop-less c =
-    let y = c .before .before .before .before .before .before .before .before .before .before in
-    omega (arith, y .before .before .before .before .loop-test .taken)
+    let z = c .before .before .before .before .before .before .before .before .before .before .before .before .before .before .before .before .before .before .before .before in
+    omega (arith, z .before .before .before .before .before .before .before .before .loop-test .taken)
 
 loop-again : tie.Need-loop-again Inv-loop μ-loop
 loop-again c =
-    let w = c .before in
-    let z = w .before .before .before .before .before .before .before in
+    let e = c .before .before .before .before .before in
+    let w = e .before .before .before .before .before .before in
+    let a = w .before .before in
+    let z = a .before .before .before .before .before .before .before in
     let y = z .before .before in
-    let l = y .before .before .before .before .before in
-    rw (w .wide .ensures .0, w .before .before .unwant .ensures)
-    (goes-on (notes (l .loop .inv) (y .best .ensures .1)) (rw (z .next .given .1) at (y .best .ensures .0)) (y .before .before .before .before .loop-test .taken))
+    let l = y .before .before .before .before .before .before .before in
+    let u = notes (l .loop .inv .0) (y .best .ensures .1) in
+    let best = y .best .ensures .0 _ _ _ _ (guards (l .loop .inv .0)) (l .loop .inv .1) in
+    let chosen = rw (z .next .given .1) at (best .0) in
+    rw (e .enter .ensures .0, a .unwant .ensures .0, w .wide .ensures .0) (
+      goes-on u chosen (y .before .before .before .before .before .before .loop-test .taken),
+      keys-go-on u chosen (best .1) (l .loop .inv .2) (rw (e .enter .ensures .0, e .enter .ensures .1, a .unwant .ensures .0, a .unwant .ensures .1, w .wide .ensures .0) at (c .rouse .ensures)),
+      l .loop .inv .2,
+    )
 
 returns-2 : tie.Need-returns-2 Inv-loop μ-loop
 returns-2 c =
     let l = c .before in
-    ((l .loop .inv .within, l .loop .inv .out-long), ends-all (l .loop .inv) (c .loop-test .left))
+    let u = l .loop .inv .0 in
+    ((u .within, u .out-long), ends-all u (c .loop-test .left))
 
 pub take-all-spec : {M : Type 1} → statement M
 take-all-spec =
@@ -115,6 +191,7 @@ take-all-spec =
     (tie.spec
     Inv-loop
     μ-loop
+    enter-all-requires
     loop-holds
     best-requires
     enum-known-next
@@ -130,6 +207,9 @@ take-all-spec =
     element-copy-out-state
     element-write-state
     array-write-held
+    array-write-waits
+    enter-requires
+    rouse-requires
     cast-out
     element-write-out
     add-k
