@@ -8,4 +8,5 @@ pub mod Arms
 pub mod Tests
 pub mod Bounds
 pub mod Pass
+pub mod Runs
 pub mod Fresh

@@ -1,112 +1,74 @@
 -- One pass over the file: what has been read so far, with what is still to be read, is what the file says.
 -- Assumes nothing.
-use mathlib.Core.Path.{_≡_, refl, sym, _∙_}
+use mathlib.Core.Path.{_≡_, refl, _∙_}
 use mathlib.Core.List.{List}
-use Prim.Native.Nat.{ℕ, zero, suc, _+_, _-_, _≤_, _<_}
-use native.Mathlib.Nat.{add-zero}
+use Prim.Native.Nat.{ℕ, zero, suc, _+_}
 use native.Mathlib.Omega.{arith}
-use lib.Dec.{leb, leb·zero}
+use lib.Dec.{leb·zero}
 use lib.ListN.{length}
-use Rattle.study.specs.Reading.{Said, says, refused, Draft, Verdict, settled, onward, blank, verdictAt, above, readOn, reading}
+use Rattle.study.specs.Reading.{Said, refused, settled, blank, verdictAt, above, reading}
 use Rattle.study.proofs.Verdicts.{read-settled, read-onward}
 use Rattle.loader.specs.declared.Progress.{Progress}
-use Rattle.loader.specs.declared.Step.{Step}
 use Rattle.loader.specs.declared.Step.the-variants.{On, Refused, Done}
 use Rattle.loader.specs.declared.Loaded.the-variants as Said-of
 use Rattle.loader.specs.Tables.{Tables, Sized}
-use Rattle.loader.specs.Steps.{Safe, Stands, Further, Meets, Loads}
+use Rattle.loader.specs.Steps.{Safe, Halfway, Loads}
 use Rattle.loader.proofs.Arms.{Answers}
-
--- the draft that the tables hold at a place, and how many looks are left from there
-pub record Halfway (file : List ℕ) (t : Tables) (p : Progress) : Type 0 where
-  pub draft : Draft
-  pub looks : ℕ
-  pub enough : length file < looks + p .at
-  pub reads : reading file ≡ readOn looks file (p .at) draft
-  pub stands : Stands file p t draft
-
-pub record Underway (file : List ℕ) (t₀ t : Tables) (p : Progress) : Type 0 where
-  pub safe : Safe file p (t .counts)
-  pub halfway : Sized t₀ → Halfway file t p
 
 abbrev pub origin : Progress
 origin = record { at = 0; vars = 0; actions = 0; tasks = 0; last = 0; own = 0; above = 0; many = 0; seed = 0 }
 
-pub begins : (file : List ℕ) (t : Tables) → Underway file t t origin
+pub begins : (file : List ℕ) {t : Tables} → Sized t → Halfway file t origin
 unfolding reading above
-begins file t =
+begins file sized =
     record {
-      safe =
+      draft = blank;
+      looks = length file + 1;
+      enough = omega arith;
+      reads = refl;
+      stands =
           record {
-            inside = omega arith;
-            few-vars = omega arith;
-            few-actions = omega arith;
-            small = λ v h. absurd (omega arith);
-            low = omega arith;
-            fewer = omega arith;
-            short = λ h. omega arith;
-            some-action = λ h k. absurd (omega arith);
-          };
-      halfway =
-          λ sized.
-          record {
-            draft = blank;
-            looks = length file + 1;
-            enough = omega arith;
-            reads = refl;
-            stands =
-                record {
-                  sized = sized;
-                  counts = record { count = refl; few = omega arith; small = λ v h. absurd (omega arith); value = λ v h. absurd (omega arith) };
-                  actions = record { count = refl; few = omega arith; action = λ i h. absurd (omega arith) };
-                  tasks = record { count = refl; start = λ v h. absurd (omega arith); goal = λ v h. absurd (omega arith) };
-                  few-tasks = omega arith;
-                  all-tasks = λ h. absurd (omega arith);
-                  last = refl;
-                  own = refl;
-                  above = λ v. leb·zero v;
-                  seed = refl;
-                  next-condition = λ h k. absurd (omega arith);
-                  counted = λ h k. absurd (omega arith);
-                };
+            sized = sized;
+            counts = record { count = refl; few = omega arith; small = λ v h. absurd (omega arith); value = λ v h. absurd (omega arith) };
+            actions = record { count = refl; few = omega arith; action = λ i h. absurd (omega arith) };
+            tasks = record { count = refl; start = λ v h. absurd (omega arith); goal = λ v h. absurd (omega arith) };
+            few-tasks = omega arith;
+            all-tasks = λ h. absurd (omega arith);
+            last = refl;
+            own = refl;
+            above = λ v. leb·zero v;
+            seed = refl;
+            next-condition = λ h k. absurd (omega arith);
+            counted = λ h k. absurd (omega arith);
           };
     }
 
-module _ {file : List ℕ} {t₀ t : Tables} {p : Progress} (under : Underway file t₀ t p) where
+module _ {file : List ℕ} {t : Tables} {p : Progress} (safe : Safe file p (t .counts)) (h : Halfway file t p) where
   -- there is one look left at least, for a place inside the file
-  looked : (h : Halfway file t p) → (n : ℕ) × (h .looks ≡ suc n)
-  looked h = go (h .looks) refl
+  looked : (n : ℕ) × (h .looks ≡ suc n)
+  looked = go (h .looks) refl
     where
       go : (k : ℕ) → h .looks ≡ k → (n : ℕ) × (h .looks ≡ suc n)
-      go zero e = absurd (omega (arith, under .safe .inside, h .enough, e))
+      go zero e = absurd (omega (arith, safe .inside, h .enough, e))
       go (suc n) e = (n, e)
 
-  settles : (h : Halfway file t p) {s : Said} → verdictAt file (p .at) (h .draft) ≡ settled s → reading file ≡ s
-  settles h v = let l = looked h in h .reads ∙ read-settled file (p .at) (h .draft) (l .1) v
+  settles : {s : Said} → verdictAt file (p .at) (h .draft) ≡ settled s → reading file ≡ s
+  settles v = h .reads ∙ read-settled file (p .at) (h .draft) (looked .1) v
 
-  pub goes-on : {t′ : Tables} {p′ : Progress} → Answers file p t t′ (On p′) → Underway file t₀ t′ p′
+  pub goes-on : {t′ : Tables} {p′ : Progress} → Answers file p t t′ (On p′) → Halfway file t′ p′
   goes-on a =
+      let l = looked in
+      let m = a .1 (h .draft) (h .stands) in
       record {
-        safe = a .0 .1;
-        halfway =
-            λ sized.
-            let h = under .halfway sized in
-            let l = looked h in
-            let m = a .1 (h .draft) (h .stands) in
-            record {
-              draft = m .0;
-              looks = l .0;
-              enough = omega (arith, h .enough, l .1, a .0 .0);
-              reads = h .reads ∙ read-onward file (p .at) (h .draft) (l .1) (m .1);
-              stands = m .2;
-            };
+        draft = m .0;
+        looks = l .0;
+        enough = omega (arith, h .enough, l .1, a .0 .0);
+        reads = h .reads ∙ read-onward file (p .at) (h .draft) (l .1) (m .1);
+        stands = m .2;
       }
 
-  pub refuses : {n place : ℕ} → Answers file p t t (Refused n place) → Sized t₀ → reading file ≡ refused n place
-  refuses a sized = let h = under .halfway sized in settles h (a .1 (h .draft) (h .stands))
+  pub refuses : {n place : ℕ} → Answers file p t t (Refused n place) → reading file ≡ refused n place
+  refuses a = settles (a .1 (h .draft) (h .stands))
 
-  pub ends : (t′ : Tables) (p′ : Progress) → Answers file p t t′ (Done p′) → Sized t₀ → Loads file t′ (Said-of.Study (p′ .vars) (p′ .actions) (p′ .seed))
-  ends t′ p′ a sized =
-      let h = under .halfway sized in
-      let m = a .1 (h .draft) (h .stands) in
-      (m .0, settles h (m .1), m .2)
+  pub ends : (t′ : Tables) (p′ : Progress) → Answers file p t t′ (Done p′) → Loads file t′ (Said-of.Study (p′ .vars) (p′ .actions) (p′ .seed))
+  ends t′ p′ a = let m = a .1 (h .draft) (h .stands) in (m .0, settles (m .1), m .2)

@@ -8,10 +8,10 @@ use lib.Dec.{leb, ltb, eqb}
 use lib.ListN.{length, getD, set}
 use Rattle.plain.specs.Choose.{pick}
 use Rattle.study.specs.Study.{Study}
-use Rattle.study.specs.Reading.{Said, says, refused, Draft, Verdict, settled, onward, lastAction, above, mayFollow, reading}
+use Rattle.study.specs.Reading.{Said, says, refused, Draft, Verdict, settled, onward, lastAction, above, mayFollow, readOn, reading}
 use Rattle.records.specs.declared.Found.{Found}
 use Rattle.records.specs.declared.Found.the-variants.{There, Unknown, Cut, Ended}
-use Rattle.loader.specs.Tables.{ActionTables, Tables, Sized, HoldsCounts, HoldsActions, HoldsTasks, Holds}
+use Rattle.loader.specs.Tables.{ActionTables, Tables, actionTables, Sized, HoldsCounts, HoldsActions, HoldsTasks, Holds}
 use Rattle.loader.specs.declared.Progress.{Progress}
 use Rattle.loader.specs.declared.Step.{Step}
 use Rattle.loader.specs.declared.Step.the-variants.{On, Refused, Done}
@@ -159,6 +159,10 @@ storedAction f i v p q next t =
       manys = stored f (t .manys) i 0;
     }
 
+-- the tables of actions with the number of conditions of the last action entered
+abbrev pub withMany : ActionTables → Progress → ActionTables
+withMany t p = actionTables (t .setters) (t .vars) (t .pres) (t .posts) (t .places) (set (t .manys) (p .actions - 1) (p .many))
+
 -- what keeps every index and every sum in range
 pub record Safe (file : List ℕ) (p : Progress) (counts : List ℕ) : Type 0 where
   pub inside : p .at ≤ length file
@@ -184,6 +188,14 @@ pub record Stands (file : List ℕ) (p : Progress) (t : Tables) (d : Draft) : Ty
   pub seed : p .seed ≡ d .study .seed
   pub next-condition : 2 ≤ p .last → p .last ≤ 3 → getD (t .acts .places) (p .actions - 1) 0 + 3 * p .many ≡ p .at
   pub counted : 2 ≤ p .last → p .last ≤ 3 → getD (t .acts .manys) (p .actions - 1) 0 ≡ p .many
+
+-- the draft that the tables hold at a place, and how many looks are left from there
+pub record Halfway (file : List ℕ) (t : Tables) (p : Progress) : Type 0 where
+  pub draft : Draft
+  pub looks : ℕ
+  pub enough : length file < looks + p .at
+  pub reads : reading file ≡ readOn looks file (p .at) draft
+  pub stands : Stands file p t draft
 
 -- a step goes on further down the file, and stays safe
 abbrev pub Further : List ℕ → ℕ → List ℕ → Step → Type 0

@@ -3,6 +3,7 @@ mod entries;
 mod faults;
 mod order;
 mod pace;
+mod sections;
 
 ghost use Rattle.loader.specs.Tables.{tables, actionTables, Sized};
 ghost use Rattle.loader.specs.Steps.{Loads};
@@ -65,7 +66,7 @@ pub fn load(
         (actionTables (now (setters .exit)) (now (vars .exit)) (now (pres .exit)) (now (posts .exit)) (now (places .exit)) (now (manys .exit)))
         (now (starts .exit)) (now (goals .exit))) r) ⌝ }
 {
-    let mut p = Progress {
+    let origin = Progress {
         at: 0,
         vars: 0,
         actions: 0,
@@ -76,10 +77,11 @@ pub fn load(
         many: 0,
         seed: 0,
     };
-    loop {
-        let taken = pace::step(
+    let with_variables = sections::variables(file, origin, counts);
+    if with_variables.last < 1 {
+        return pace::rest(
             file,
-            p,
+            with_variables,
             counts,
             setters,
             vars,
@@ -90,20 +92,30 @@ pub fn load(
             starts,
             goals,
         );
-        match taken {
-            Step::On(next) => {
-                p = next;
-            }
-            Step::Refused { number, place } => {
-                return Loaded::Refused { number, place };
-            }
-            Step::Done(end) => {
-                return Loaded::Study {
-                    vars: end.vars,
-                    actions: end.actions,
-                    seed: end.seed,
-                };
-            }
-        }
     }
+    let with_actions = sections::actions(
+        file,
+        with_variables,
+        counts,
+        setters,
+        vars,
+        pres,
+        posts,
+        places,
+        manys,
+    );
+    let with_tasks = sections::tasks(file, with_actions, counts, starts, goals);
+    pace::rest(
+        file,
+        with_tasks,
+        counts,
+        setters,
+        vars,
+        pres,
+        posts,
+        places,
+        manys,
+        starts,
+        goals,
+    )
 }

@@ -1,12 +1,16 @@
-// One record read, judged and taken.
+// One record read, judged and taken; and so to the end of the file.
 ghost use mathlib.Core.Path.{_≡_};
 ghost use mathlib.Core.Bool.{true};
+ghost use Prim.Native.Nat.{_≤_};
 ghost use lib.Dec.{ltb};
+ghost use lib.ListN.{length};
 ghost use Rattle.study.specs.Reading.{Draft, verdictAt, mayFollow};
 ghost use Rattle.records.specs.Records.{recordAt};
 ghost use Rattle.records.specs.declared.Found.the-variants.{There};
-ghost use Rattle.loader.specs.Tables.{tables, actionTables};
-ghost use Rattle.loader.specs.Steps.{Safe, Stands, Further, Meets, notThere, afterEnd, seedOf};
+ghost use Rattle.loader.specs.Tables.{Tables, tables, actionTables};
+ghost use Rattle.loader.specs.Steps.{Safe, Stands, Halfway, Further, Meets, Loads, notThere, afterEnd, seedOf};
+ghost use Rattle.loader.specs.declared.Loaded.the-variants.{Study};
+use crate::Loaded;
 use crate::Progress;
 use crate::Step;
 use crate::entries;
@@ -129,7 +133,7 @@ fn take(
 }
 
 // Reads the next record and takes it.
-pub(crate) fn step(
+fn step(
     file: &[u8],
     p: Progress,
     counts: &mut [u8; 32],
@@ -181,4 +185,98 @@ pub(crate) fn step(
         starts,
         goals,
     )
+}
+
+// The seed, if all that is left of the file is a seed without fault and the end; else 0.
+fn ending(file: &[u8], p: Progress) -> u64
+    requires { ⌜ p .at ≤ length (now file) ⌝ }
+    ensures { λ r. ⌜ ((t : Tables)
+        → Safe (now (file .entry)) p (t .counts) → Halfway (now (file .entry)) t p → 1 ≤ r → Loads (now (file .entry)) t (Study (p .vars) (p .actions) r)) ⌝ }
+{
+    let at = p.at;
+    if p.tasks < p.vars {
+        return 0;
+    }
+    if p.last != 4 {
+        return 0;
+    }
+    if file.len() - at != 6 {
+        return 0;
+    }
+    if file[at] != 5 {
+        return 0;
+    }
+    if file[at + 5] != 6 {
+        return 0;
+    }
+    let seed = seed_of(file[at + 1], file[at + 2], file[at + 3], file[at + 4]);
+    if faults::seed_fault(seed) != 0 {
+        return 0;
+    }
+    seed
+}
+
+// Reads on from a place, record by record, to the end record or the first refusal.
+pub(crate) fn rest(
+    file: &[u8],
+    begin: Progress,
+    counts: &mut [u8; 32],
+    setters: &mut [u8; 512],
+    vars: &mut [u8; 256],
+    pres: &mut [u8; 256],
+    posts: &mut [u8; 256],
+    places: &mut [u16; 256],
+    manys: &mut [u8; 256],
+    starts: &mut [u8; 32],
+    goals: &mut [u8; 32],
+) -> Loaded
+    requires { ⌜ Safe (now file) begin (now counts) ⌝ }
+    ensures { λ r. ⌜ (Halfway (now (file .entry))
+        (tables (now (counts .entry))
+        (actionTables (now (setters .entry)) (now (vars .entry)) (now (pres .entry)) (now (posts .entry)) (now (places .entry)) (now (manys .entry)))
+        (now (starts .entry)) (now (goals .entry))) begin
+        → Loads (now (file .entry))
+        (tables (now (counts .exit))
+        (actionTables (now (setters .exit)) (now (vars .exit)) (now (pres .exit)) (now (posts .exit)) (now (places .exit)) (now (manys .exit)))
+        (now (starts .exit)) (now (goals .exit))) r) ⌝ }
+{
+    let seed = ending(file, begin);
+    if seed != 0 {
+        return Loaded::Study {
+            vars: begin.vars,
+            actions: begin.actions,
+            seed,
+        };
+    }
+    let mut p = begin;
+    loop {
+        let taken = step(
+            file,
+            p,
+            counts,
+            setters,
+            vars,
+            pres,
+            posts,
+            places,
+            manys,
+            starts,
+            goals,
+        );
+        match taken {
+            Step::On(next) => {
+                p = next;
+            }
+            Step::Refused { number, place } => {
+                return Loaded::Refused { number, place };
+            }
+            Step::Done(end) => {
+                return Loaded::Study {
+                    vars: end.vars,
+                    actions: end.actions,
+                    seed: end.seed,
+                };
+            }
+        }
+    }
 }
