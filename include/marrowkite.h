@@ -70,10 +70,10 @@
  *
  * At most, in bytes, whatever the arguments; the tests hold every call that they make to it:
  *
- *   marrowkite_check          2,560
- *   marrowkite_plan           7,424
- *   marrowkite_plan_seeded    7,424
- *   marrowkite_run            3,072
+ *   marrowkite_check          2,816
+ *   marrowkite_plan           5,504
+ *   marrowkite_plan_seeded    5,504
+ *   marrowkite_run            3,392
  *   marrowkite_draw             128
  *   marrowkite_record_at        128
  */

@@ -1,0 +1,64 @@
+"""The files that the calls are measured on: the porter file, files of 10 to 256 actions made from a fixed seed, and the
+longest file. Each has a straight plan."""
+
+import random
+import sys
+from pathlib import Path
+
+ROOT = Path(__file__).resolve().parents[1]
+sys.path.insert(0, str(ROOT / "tests"))
+import study  # noqa: E402
+
+SIZES = [10, 20, 30, 60, 128, 256]
+
+
+def walk_lengths(rng, actions, variables):
+    """How many of the actions each variable's walk has: at least one, at most 12, some four fifths of them all."""
+    lengths = [1] * variables
+    while sum(lengths) < actions * 4 // 5:
+        v = rng.randrange(variables)
+        if lengths[v] < 12:
+            lengths[v] += 1
+    return lengths
+
+
+def conditions(rng, state, own):
+    """What up to four other variables have now."""
+    others = [u for u in range(len(state)) if u != own]
+    chosen = rng.sample(others, min(len(others), rng.choice([0, 1, 1, 2, 2, 3, 4])))
+    return [(u, state[u]) for u in sorted(chosen)]
+
+
+def made(actions, seed):
+    """A study that was walked through once, in a drawn order: each action asks for what others had when it was done. One in
+    five is on no walk, since it leaves the goal or leads to a value that is not wanted."""
+    rng = random.Random(seed)
+    variables = max(3, min(32, actions // 5))
+    lengths = walk_lengths(rng, actions, variables)
+    counts = [min(16, k + 4) for k in lengths]
+    values = [rng.sample(range(c), c) for c in counts]
+    state = [values[v][0] for v in range(variables)]
+    done = [0] * variables
+    out = []
+    order = [v for v, k in enumerate(lengths) for _ in range(k)]
+    rng.shuffle(order)
+    for v in order:
+        pre, post = values[v][done[v]], values[v][done[v] + 1]
+        out.append(study.Action(v, pre, post, conditions(rng, state, v)))
+        done[v] += 1
+        state[v] = post
+    spare = [(v, post) for v in range(variables) for post in values[v][lengths[v] + 1 :]]
+    for v, post in rng.sample(spare, actions - len(out)):
+        pre = rng.choice([q for q in range(counts[v]) if q != post])
+        out.append(study.Action(v, pre, post, conditions(rng, state, v)))
+    rng.shuffle(out)
+    starts = [values[v][0] for v in range(variables)]
+    return study.written(study.Study(counts, out, starts, state, rng.randrange(1, study.LARGEST_SEED + 1)))
+
+
+def files():
+    """Name and bytes of each."""
+    yield "porter", study.PORTER
+    for actions in SIZES:
+        yield f"{actions} actions", made(actions, actions)
+    yield "longest", (ROOT / "studies" / "longest.bin").read_bytes()

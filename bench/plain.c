@@ -1,0 +1,276 @@
+/* Document 01's calls in plain C, written for speed and proved nowhere: what the library is measured against. Each section
+ * of the file has a loop of its own, no table is cleared that need not be, and while planning a variable is looked at again
+ * only when what it waits for has come. */
+#include "plain.h"
+
+void *memcpy(void *to, const void *from, size_t len);
+void *memset(void *to, int byte, size_t len);
+
+enum { VARIABLE = 1, ACTION, CONDITION, TASK, SEED, END };
+enum { MOST_VARIABLES = 32, MOST_ACTIONS = 256, LARGEST_SEED = 2147483646 };
+
+typedef marrowkite_answer answer;
+
+static answer three(uint64_t number, uint64_t first, uint64_t second) { return (answer){number, first, second}; }
+static answer refused(uint64_t number, uint64_t first) { return three(number, first, 0); }
+
+/* What a file says. `set` and `setter` tell for each variable which values some action sets, and which action. */
+typedef struct {
+  unsigned variables, actions;
+  uint32_t seed;
+  uint8_t counts[MOST_VARIABLES], starts[MOST_VARIABLES], goals[MOST_VARIABLES];
+  uint8_t variable[MOST_ACTIONS], pre[MOST_ACTIONS], post[MOST_ACTIONS];
+  uint16_t place[MOST_ACTIONS], end[MOST_ACTIONS]; /* where its conditions begin and end */
+  uint16_t set[MOST_VARIABLES];
+  uint8_t setter[MOST_VARIABLES * 16];
+} study;
+
+/* No record, or one that may not stand here. */
+static answer misplaced(const uint8_t *f, size_t len, size_t at) {
+  if (at >= len) return refused(1, len);
+  return refused((unsigned)(f[at] - 1) < 6 ? 3 : 2, at);
+}
+
+static answer load(const uint8_t *f, size_t len, study *s) {
+  size_t at = 0;
+  unsigned n = 0, a = 0;
+  for (; at < len && f[at] == VARIABLE; at += 2, n++) {
+    if (len - at < 2) return refused(1, at);
+    if (n == MOST_VARIABLES) return refused(4, at);
+    unsigned count = f[at + 1];
+    if (count - 2 > 14) return refused(5, at);
+    s->counts[n] = (uint8_t)count;
+    s->set[n] = 0;
+  }
+  if (n == 0) return misplaced(f, len, at);
+  for (; at < len && f[at] == ACTION; a++) {
+    if (len - at < 4) return refused(1, at);
+    if (a == MOST_ACTIONS) return refused(4, at);
+    unsigned v = f[at + 1], p = f[at + 2], q = f[at + 3], above = 0;
+    if (v >= n || p >= s->counts[v] || q >= s->counts[v]) return refused(5, at);
+    if (p == q) return refused(6, at);
+    if (s->set[v] >> q & 1) return refused(7, at);
+    s->set[v] |= (uint16_t)(1u << q);
+    s->setter[16 * v + q] = (uint8_t)a;
+    s->variable[a] = (uint8_t)v;
+    s->pre[a] = (uint8_t)p;
+    s->post[a] = (uint8_t)q;
+    s->place[a] = (uint16_t)(at += 4);
+    for (; at < len && f[at] == CONDITION; at += 3) {
+      if (len - at < 3) return refused(1, at);
+      unsigned u = f[at + 1];
+      if (u >= n || f[at + 2] >= s->counts[u]) return refused(5, at);
+      if (u == v || u < above) return refused(6, at);
+      above = u + 1;
+    }
+    s->end[a] = (uint16_t)at;
+  }
+  for (unsigned v = 0; v < n; v++, at += 4) {
+    if (at >= len || f[at] != TASK) return misplaced(f, len, at);
+    if (len - at < 4) return refused(1, at);
+    unsigned p = f[at + 2], q = f[at + 3];
+    if (f[at + 1] != v || p >= s->counts[v] || q >= s->counts[v]) return refused(5, at);
+    s->starts[v] = (uint8_t)p;
+    s->goals[v] = (uint8_t)q;
+  }
+  if (at >= len || f[at] != SEED) return misplaced(f, len, at);
+  if (len - at < 5) return refused(1, at);
+  uint32_t seed = (uint32_t)f[at + 1] << 24 | (uint32_t)f[at + 2] << 16 | (uint32_t)f[at + 3] << 8 | f[at + 4];
+  if (seed - 1 >= LARGEST_SEED) return refused(5, at);
+  at += 5;
+  if (at >= len || f[at] != END) return misplaced(f, len, at);
+  if (++at < len) return refused(8, at);
+  s->variables = n;
+  s->actions = a;
+  s->seed = seed;
+  return three(0, a, n);
+}
+
+/* Planning. `ready` has a bit for each rank whose action may be taken now. */
+typedef struct {
+  const uint8_t *file, *ranks;
+  study *s;
+  uint16_t on[MOST_VARIABLES];     /* the values on the walk */
+  uint8_t leaves[512];             /* by variable and value on the walk: the action that leaves it */
+  uint8_t wants[512];              /* how many conditions of actions not taken yet want the value */
+  uint16_t next[MOST_VARIABLES];   /* the condition of the next action that is to be looked at */
+  uint32_t waiting[MOST_VARIABLES]; /* which variables wait for this one to move on */
+  uint64_t ready[4];
+} planner;
+
+/* Looks whether the next action of v may be taken. Else v waits for the variable of the condition that fails, or for the
+ * value that it has to be no longer wanted. 256 wants can only be on a variable that never moves, so that the count may
+ * come round. */
+static void look(planner *p, unsigned v) {
+  study *s = p->s;
+  unsigned q = s->starts[v];
+  if (q == s->goals[v] || p->wants[16 * v + q] != 0) return;
+  unsigned i = p->leaves[16 * v + q];
+  unsigned at = p->next[v], end = s->end[i];
+  for (; at < end; at += 3) {
+    unsigned u = p->file[at + 1];
+    if (s->starts[u] != p->file[at + 2]) {
+      p->waiting[u] |= 1u << v;
+      p->next[v] = (uint16_t)at;
+      return;
+    }
+  }
+  p->next[v] = (uint16_t)end;
+  p->ready[p->ranks[i] >> 6] |= 1ull << (p->ranks[i] & 63);
+}
+
+static int lowest(const uint64_t ready[4]) {
+  for (int w = 0; w < 4; w++)
+    if (ready[w]) return 64 * w + __builtin_ctzll(ready[w]);
+  return -1;
+}
+
+static answer plan_loaded(const uint8_t *f, const uint8_t *ranks, study *s, uint8_t *plan, size_t plan_len) {
+  planner p;
+  uint64_t walk[4] = {0, 0, 0, 0};
+  uint8_t by_rank[MOST_ACTIONS], out[MOST_ACTIONS];
+  unsigned n = s->variables, total = 0;
+  p.file = f, p.ranks = ranks, p.s = s;
+  for (unsigned v = 0; v < n; v++) {
+    unsigned q = s->goals[v], on = 1u << q;
+    for (; q != s->starts[v]; total++) {
+      if (!(s->set[v] >> q & 1)) return refused(10, v);
+      unsigned i = s->setter[16 * v + q];
+      q = s->pre[i];
+      if (on >> q & 1) return refused(10, v);
+      on |= 1u << q;
+      p.leaves[16 * v + q] = (uint8_t)i;
+      walk[i >> 6] |= 1ull << (i & 63);
+    }
+    p.on[v] = (uint16_t)on;
+  }
+  memset(p.wants, 0, 16 * n);
+  for (int w = 0; w < 4; w++)
+    for (uint64_t left = walk[w]; left; left &= left - 1) {
+      unsigned i = 64 * (unsigned)w + (unsigned)__builtin_ctzll(left);
+      by_rank[ranks[i]] = (uint8_t)i;
+      for (unsigned at = s->place[i], end = s->end[i]; at < end; at += 3) {
+        unsigned u = f[at + 1], q = f[at + 2];
+        if (!(p.on[u] >> q & 1)) return three(11, i, u);
+        p.wants[16 * u + q]++;
+      }
+    }
+  memset(p.ready, 0, sizeof p.ready);
+  memset(p.waiting, 0, 4 * n);
+  for (unsigned v = 0; v < n; v++)
+    if (s->starts[v] != s->goals[v]) p.next[v] = s->place[p.leaves[16 * v + s->starts[v]]];
+  for (unsigned v = 0; v < n; v++) look(&p, v);
+  for (unsigned k = 0; k < total; k++) {
+    int rank = lowest(p.ready);
+    if (rank < 0) return refused(12, k);
+    p.ready[rank >> 6] &= p.ready[rank >> 6] - 1;
+    unsigned i = by_rank[rank], v = s->variable[i], q = s->post[i];
+    out[k] = (uint8_t)i;
+    for (unsigned at = s->place[i], end = s->end[i]; at < end; at += 3) {
+      unsigned u = f[at + 1];
+      if (--p.wants[16 * u + f[at + 2]] == 0) look(&p, u);
+    }
+    s->starts[v] = (uint8_t)q;
+    if (q != s->goals[v]) p.next[v] = s->place[p.leaves[16 * v + q]];
+    look(&p, v);
+    uint32_t wake = p.waiting[v];
+    p.waiting[v] = 0;
+    for (; wake; wake &= wake - 1) look(&p, (unsigned)__builtin_ctz(wake));
+  }
+  if (plan_len < total) return refused(13, total);
+  memcpy(plan, out, total);
+  return three(0, total, 0);
+}
+
+/* The index of the first entry that is no rank or repeats one, or the count. */
+static unsigned first_unranked(const uint8_t *ranks, unsigned count) {
+  uint64_t met[4] = {0, 0, 0, 0};
+  for (unsigned k = 0; k < count; k++) {
+    unsigned r = ranks[k];
+    if (r >= count || met[r >> 6] >> (r & 63) & 1) return k;
+    met[r >> 6] |= 1ull << (r & 63);
+  }
+  return count;
+}
+
+/* Draws the list and answers the generator's last number. */
+static uint32_t draw(uint32_t last, unsigned count, uint8_t *ranks) {
+  for (unsigned i = 0; i < count; i++) ranks[i] = (uint8_t)i;
+  for (unsigned left = count; left > 1; left--) {
+    uint64_t product = 16807ull * last;
+    last = (uint32_t)(product & 2147483647) + (uint32_t)(product >> 31);
+    if (last >= 2147483647) last -= 2147483647;
+    unsigned j = last % left;
+    uint8_t other = ranks[j];
+    ranks[j] = ranks[left - 1];
+    ranks[left - 1] = other;
+  }
+  return last;
+}
+
+answer plain_check(const uint8_t *file, size_t file_len) {
+  study s;
+  return load(file, file_len, &s);
+}
+
+answer plain_plan(const uint8_t *file, size_t file_len, const uint8_t *ranks, size_t ranks_len, uint8_t *plan,
+                  size_t plan_len) {
+  study s;
+  answer loaded = load(file, file_len, &s);
+  if (loaded.number != 0) return loaded;
+  if (ranks_len != s.actions) return three(9, ranks_len, 1);
+  unsigned k = first_unranked(ranks, s.actions);
+  if (k < s.actions) return refused(9, k);
+  return plan_loaded(file, ranks, &s, plan, plan_len);
+}
+
+answer plain_plan_seeded(const uint8_t *file, size_t file_len, uint8_t *plan, size_t plan_len) {
+  study s;
+  uint8_t ranks[MOST_ACTIONS];
+  answer loaded = load(file, file_len, &s);
+  if (loaded.number != 0) return loaded;
+  draw(s.seed, s.actions, ranks);
+  return plan_loaded(file, ranks, &s, plan, plan_len);
+}
+
+answer plain_run(const uint8_t *file, size_t file_len, const uint8_t *plan, size_t plan_len, uint8_t *state,
+                 size_t state_len) {
+  study s;
+  uint16_t held[MOST_VARIABLES];
+  answer loaded = load(file, file_len, &s);
+  if (loaded.number != 0) return loaded;
+  if (state_len < s.variables) return refused(13, s.variables);
+  for (unsigned v = 0; v < s.variables; v++) held[v] = (uint16_t)(1u << s.starts[v]);
+  for (size_t k = 0; k < plan_len; k++) {
+    unsigned i = plan[k];
+    if (i >= s.actions) return refused(14, k);
+    unsigned v = s.variable[i], q = s.post[i];
+    if (s.starts[v] != s.pre[i]) return three(15, k, v);
+    for (unsigned at = s.place[i], end = s.end[i]; at < end; at += 3)
+      if (s.starts[file[at + 1]] != file[at + 2]) return three(15, k, file[at + 1]);
+    if (held[v] >> q & 1) return three(16, k, v);
+    held[v] |= (uint16_t)(1u << q);
+    s.starts[v] = (uint8_t)q;
+  }
+  for (unsigned v = 0; v < s.variables; v++)
+    if (s.starts[v] != s.goals[v]) return refused(17, v);
+  memcpy(state, s.starts, s.variables);
+  return three(0, s.variables, 0);
+}
+
+answer plain_draw(uint64_t seed, uint64_t count, uint8_t *ranks, size_t ranks_len) {
+  if (seed - 1 >= LARGEST_SEED) return refused(18, seed);
+  if (count > MOST_ACTIONS) return refused(19, count);
+  if (ranks_len < count) return refused(13, count);
+  return three(0, draw((uint32_t)seed, (unsigned)count, ranks), 0);
+}
+
+marrowkite_record plain_record_at(const uint8_t *file, size_t file_len, uint64_t at) {
+  static const uint8_t lengths[] = {1, 3, 2, 3, 4, 0};
+  if (at >= file_len) return (marrowkite_record){1, 0, file_len, 0, file_len};
+  unsigned kind = file[at];
+  if (kind - 1 > 5) return (marrowkite_record){2, 0, at, 0, at};
+  unsigned len = lengths[kind - 1];
+  if (file_len - at - 1 < len) return (marrowkite_record){1, 0, at, 0, at};
+  return (marrowkite_record){0, kind, at + 1, len, at + 1 + len};
+}

@@ -1,0 +1,16 @@
+/* The calls of marrowkite.h under other names: the yardstick that the library is measured against (plain.c). */
+#ifndef PLAIN_H
+#define PLAIN_H
+
+#include "marrowkite.h"
+
+marrowkite_answer plain_check(const uint8_t *file, size_t file_len);
+marrowkite_answer plain_plan(const uint8_t *file, size_t file_len, const uint8_t *ranks, size_t ranks_len, uint8_t *plan,
+                             size_t plan_len);
+marrowkite_answer plain_plan_seeded(const uint8_t *file, size_t file_len, uint8_t *plan, size_t plan_len);
+marrowkite_answer plain_run(const uint8_t *file, size_t file_len, const uint8_t *plan, size_t plan_len, uint8_t *state,
+                            size_t state_len);
+marrowkite_answer plain_draw(uint64_t seed, uint64_t count, uint8_t *ranks, size_t ranks_len);
+marrowkite_record plain_record_at(const uint8_t *file, size_t file_len, uint64_t at);
+
+#endif
