@@ -2,7 +2,7 @@
 -- Assumes nothing.
 use mathlib.Core.Path.{_≡_, refl, subst}
 use mathlib.Core.List.{List}
-use Prim.Native.Nat.{ℕ, zero, suc, _+_}
+use Prim.Native.Nat.{ℕ, zero, suc}
 use lib.Dec.{ltb}
 use lib.ListN.{length}
 use Rattle.plain.proofs.Tests.{picked}
@@ -10,8 +10,9 @@ use Rattle.records.specs.Records.{recordAt}
 use Rattle.records.specs.declared.Found.{Found}
 use Rattle.records.specs.declared.Found.the-variants.{There, Unknown, Cut, Ended}
 use Rattle.study.specs.Study.{Study}
-use Rattle.study.specs.Reading.{Said, says, refused, Record, variable, action, condition, task, seed, end, recordFrom, Draft, blank, tasksLeft, allowed, fault}
-use Rattle.study.specs.Reading.{Verdict, settled, onward, taken, unless, judged, verdictAt, follow, readOn, reading}
+use Rattle.study.specs.Reading.{Said, says, refused, Record, variable, action, condition, task, seed, end, recordFrom, Draft, tasksLeft, allowed, fault}
+use Rattle.study.specs.Reading.{Verdict, taken, unless, judged, verdictAt, reading}
+use Rattle.study.proofs.Readings.{VerdictHas, reading-has}
 use Rattle.lawful.specs.Lawful.{Lawful}
 use Rattle.lawful.proofs.Order.{Follows, may-follow}
 use Rattle.lawful.proofs.Faults.{Faultless, faultless}
@@ -23,9 +24,8 @@ LawfulIfSaid (says s) = Lawful s
 LawfulIfSaid (refused n place) = Unit
 
 -- .. and a draft to read on with is sound
-abbrev pub SoundVerdict : Verdict → Type 0
-SoundVerdict (settled s) = LawfulIfSaid s
-SoundVerdict (onward at d) = Sound d
+abbrev SoundVerdict : Verdict → Type 0
+SoundVerdict = VerdictHas LawfulIfSaid Sound
 
 unless-sound : (n at : ℕ) (v : Verdict) → (n ≡ 0 → SoundVerdict v) → SoundVerdict (unless n at v)
 unfolding unless
@@ -58,20 +58,12 @@ module _ (file : List ℕ) {d : Draft} (sound : Sound d) where
   judged-sound at (Cut kind place) = tt
   judged-sound at (Ended place) = tt
 
-  pub verdict-sound : (at : ℕ) → SoundVerdict (verdictAt file at d)
+  verdict-sound : (at : ℕ) → SoundVerdict (verdictAt file at d)
   unfolding verdictAt
   verdict-sound at = judged-sound at (recordAt file at)
 
-follow-lawful : (v : Verdict) (read : ℕ → Draft → Said) → SoundVerdict v → ((at : ℕ) (d : Draft) → Sound d → LawfulIfSaid (read at d)) → LawfulIfSaid (follow v read)
-follow-lawful (settled s) read h f = h
-follow-lawful (onward at d) read h f = f at d h
-
-pub read-on-lawful : (n : ℕ) (file : List ℕ) (at : ℕ) (d : Draft) → Sound d → LawfulIfSaid (readOn n file at d)
-unfolding readOn
-read-on-lawful zero file at d sound = tt
-read-on-lawful (suc n) file at d sound =
-    follow-lawful (verdictAt file at d) (readOn n file) (verdict-sound file sound at) (read-on-lawful n file)
+pub reading-lawful : (file : List ℕ) → LawfulIfSaid (reading file)
+reading-lawful file = reading-has LawfulIfSaid Sound file tt (λ at d sound. verdict-sound file sound at) blank-sound
 
 pub loads-lawful : (file : List ℕ) (s : Study) → reading file ≡ says s → Lawful s
-unfolding reading
-loads-lawful file s e = subst LawfulIfSaid e (read-on-lawful (length file + 1) file 0 blank blank-sound)
+loads-lawful file s e = subst LawfulIfSaid e (reading-lawful file)

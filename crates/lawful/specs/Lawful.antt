@@ -5,7 +5,7 @@ use mathlib.Core.Path.{_≡_}
 use mathlib.Core.Logic.{_≢_}
 use mathlib.Core.List.{List}
 use lib.ListN.{length, getD}
-use Rattle.study.specs.Study.{Condition, Action, Task, Study, actionAt, taskAt, conditionAt}
+use Rattle.study.specs.Study.{Condition, Action, Study, actionAt, taskAt, conditionAt}
 
 -- the variable is there, and the value is one of its values
 pub record Has (counts : List ℕ) (v q : ℕ) : Type 0 where

@@ -2,7 +2,7 @@
 -- Assumes nothing.
 use mathlib.Core.Path.{_≡_, refl, sym, ap, subst, _∙_}
 use mathlib.Core.Bool.{Bool, true, false}
-use mathlib.Core.Logic.{_⊎_, inl, inr}
+use mathlib.Core.Logic.{inl, inr}
 use mathlib.Core.List.{List, [], _∷_}
 use Prim.Native.Nat.{ℕ, zero, suc, _+_, _-_, _*_, _≤_, _<_}
 use native.Mathlib.Omega.{arith}
@@ -16,14 +16,14 @@ use Rattle.records.specs.Records.{recordAt, bodyLength, bodyLengths}
 use Rattle.records.specs.declared.Found.{Found}
 use Rattle.records.specs.declared.Found.the-variants.{There, Unknown, Cut, Ended}
 use Rattle.records.proofs.Found.{the-type}
-use Rattle.records.proofs.Laws.{Lies, there-lies}
-use Rattle.study.specs.Reading.{says, refused, Draft, Verdict, settled, onward, allowed, mayFollow, unless, fault, with, decoded, recordFrom, taken, judged, verdictAt, variable, action, condition, task, seed}
+use Rattle.records.proofs.Laws.{there-lies}
+use Rattle.study.specs.Reading.{says, refused, Draft, Verdict, settled, onward, allowed, mayFollow, unless, fault, with, decoded, taken, judged, verdictAt, variable, action, condition, task, seed}
 use Rattle.study.proofs.Verdicts.{verdict-by, verdict-allowed}
 use Rattle.lawful.proofs.Order.{may-follow}
 use Rattle.loader.specs.declared.Progress.{Progress}
 use Rattle.loader.specs.declared.Step.{Step}
-use Rattle.loader.specs.declared.Step.the-variants.{On, Refused, Done}
-use Rattle.loader.specs.Tables.{ActionTables, Tables, tables, actionTables, HoldsTasks, Holds}
+use Rattle.loader.specs.declared.Step.the-variants.{Refused, Done}
+use Rattle.loader.specs.Tables.{Tables, tables, actionTables, HoldsTasks}
 use Rattle.loader.specs.Steps.{Safe, Stands, Further, Meets, unlessFault, stored, storedAction, afterVariable, afterAction, afterCondition, afterTask, afterSeed, variableFault, actionFault, conditionFault, taskFault, seedFault, seedOf, afterEnd, notThere}
 use Rattle.loader.proofs.Told.{variable-fault-is, action-fault-is, condition-fault-is, task-fault-is, seed-fault-is}
 use Rattle.loader.proofs.Entered.{variable-entered, action-entered, condition-entered, task-entered, seed-entered}
@@ -134,7 +134,7 @@ module _ (file : List ℕ) (p : Progress) (start next : ℕ) (t : Tables) (safe 
             (λ b. tables (t .counts) (actionTables (a .setters) (a .vars) (a .pres) (a .posts) (a .places) (pick b (set (a .manys) (p .actions - 1) (p .many + 1)) (a .manys))) (t .starts) (t .goals))
             p (afterCondition p v next) (record { study = with (d .study) (condition v q); last = 3 }) f
             (rw (ef ∙ condition-fault-is s v q, ev, eq) (verdict-allowed file (p .at) d there (allowed-is s 3 ∙ may)))
-            (λ z. condition-entered s next v q (sym (condition-fault-is s v q) ∙ (sym ef ∙ z)) (m .1) (m .2) (safe .some-action (m .1) (m .2)) (omega arith) (l .whole)
+            (λ z. condition-entered s next v q (m .1) (m .2) (safe .some-action (m .1) (m .2)) (omega arith) (l .whole)
             (sym (ev ∙ ap (λ (i : ℕ). getD file i 0) (l .starts))) second),
       )
 
@@ -167,7 +167,7 @@ module _ (file : List ℕ) (p : Progress) (start next : ℕ) (t : Tables) (safe 
         further-unless file (λ b. t .counts) p (afterSeed p n next) (seedFault n) (λ z. (omega arith, seed-kept safe next (l .whole) n)),
         λ d s. meets-unless file (λ b. t) p (afterSeed p n next) (record { study = with (d .study) (seed n); last = 5 }) (seedFault n)
             (rw (seed-fault-is s n, en) (verdict-allowed file (p .at) d there (allowed-is s 5 ∙ may)))
-            (λ z. seed-entered s next n (sym (seed-fault-is s n) ∙ z) (ltb-false (p .tasks) (p .vars) (m .2))),
+            (λ z. seed-entered s next n (ltb-false (p .tasks) (p .vars) (m .2))),
       )
 
   pub end-arm :

@@ -88,7 +88,6 @@ module _ {file : List ℕ} {p : Progress} {t : Tables} {d : Draft} (stands : Sta
 
   pub condition-entered :
       (v q : ℕ)
-      → fault (d .study) (condition v q) ≡ 0
       → 2 ≤ p .last
       → p .last ≤ 3
       → 1 ≤ p .actions
@@ -102,7 +101,7 @@ module _ {file : List ℕ} {p : Progress} {t : Tables} {d : Draft} (stands : Sta
       (t .starts) (t .goals))
       (record { study = with (d .study) (condition v q); last = 3 })
   unfolding with
-  condition-entered v q good low high some at room is-var is-value = record {
+  condition-entered v q low high some at room is-var is-value = record {
     sized = omega (arith, length-set (t .acts .manys) (p .actions - 1) (p .many + 1));
     counts = stands .counts;
     actions = rw (← same)
@@ -161,11 +160,10 @@ module _ {file : List ℕ} {p : Progress} {t : Tables} {d : Draft} (stands : Sta
 
   pub seed-entered :
       (n : ℕ)
-      → fault (d .study) (seed n) ≡ 0
       → p .vars ≤ p .tasks
       → Stands file (afterSeed p n next) t (record { study = with (d .study) (seed n); last = 5 })
   unfolding with
-  seed-entered n good all = record {
+  seed-entered n all = record {
     sized = stands .sized;
     counts = stands .counts;
     actions = stands .actions;

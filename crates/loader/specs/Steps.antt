@@ -1,14 +1,14 @@
 -- What one record does to the tables: the faults read off them, where the reading stands, and how both answer to the definition of what a file says.
 -- Assumes nothing.
-use Prim.Native.Nat.{ℕ, suc, _+_, _-_, _*_, _≤_, _<_}
+use Prim.Native.Nat.{ℕ, _+_, _-_, _*_, _≤_, _<_}
 use mathlib.Core.Path.{_≡_}
-use mathlib.Core.Bool.{Bool, true, false, not, _&&_}
+use mathlib.Core.Bool.{Bool, not, _&&_}
 use mathlib.Core.List.{List}
 use lib.Dec.{leb, ltb, eqb}
 use lib.ListN.{length, getD, set}
 use Rattle.plain.specs.Choose.{pick}
 use Rattle.study.specs.Study.{Study}
-use Rattle.study.specs.Reading.{Said, says, refused, Draft, Verdict, settled, onward, lastAction, above, mayFollow, readOn, reading}
+use Rattle.study.specs.Reading.{says, refused, Draft, Verdict, settled, onward, lastAction, above, mayFollow, readOn, reading}
 use Rattle.records.specs.declared.Found.{Found}
 use Rattle.records.specs.declared.Found.the-variants.{There, Unknown, Cut, Ended}
 use Rattle.loader.specs.Tables.{ActionTables, Tables, actionTables, Sized, HoldsCounts, HoldsActions, HoldsTasks, Holds}

@@ -1,7 +1,7 @@
 // One record taken: its fault, or its entry in the tables.
 ghost use mathlib.Core.Path.{_≡_};
 ghost use Prim.Native.Nat.{ℕ, _≤_, _<_, _+_, _*_, _-_};
-ghost use lib.ListN.{length, getD};
+ghost use lib.ListN.{getD};
 ghost use Rattle.loader.specs.Steps.{variableFault, actionFault, conditionFault, taskFault, seedFault};
 ghost use Rattle.loader.specs.Steps.{afterVariable, afterAction, afterCondition, afterTask, afterSeed, unlessFault, stored, storedAction};
 ghost use Rattle.loader.specs.Tables.{actionTables};

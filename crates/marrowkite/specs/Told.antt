@@ -1,6 +1,6 @@
 -- Document 01's numbers for each case of what reading one record finds.
 -- Assumes nothing.
-use Prim.Native.Nat.{ℕ, _-_}
+use Prim.Native.Nat.{_-_}
 use Rattle.records.specs.Records.{numberOf, kindOf, startOf, nextOf}
 use Rattle.records.specs.declared.Found.{Found}
 use Rattle.marrowkite.specs.declared.Record.{Record}

@@ -3,7 +3,7 @@
 use mathlib.Core.Logic.{_⊎_, inl, inr}
 use mathlib.Core.List.{List, [], _∷_, _++_}
 use Prim.Native.Nat.{ℕ, _≤_}
-use Rattle.orders.specs.Orders.{In, None, Plus, Ready, Takes, OrderFrom, Greedy}
+use Rattle.orders.specs.Orders.{In, None, Plus, Ready, Takes, Greedy}
 use Rattle.orders.proofs.Members.{TakenBy, first-joined, first-parted}
 
 -- two ways to say which numbers are taken
@@ -66,39 +66,12 @@ module _ (member : ℕ → Type 0) (before : ℕ → ℕ → Type 0) where
   pub least-same : (rank : ℕ → ℕ) {P Q : ℕ → Type 0} {x : ℕ} → Same P Q → Least rank P x → Least rank Q x
   least-same rank s least y r = least y (ready-same (same-turned s) r)
 
-  pub takes-same : {P Q : ℕ → Type 0} (xs : List ℕ) → Same P Q → Takes member before P xs → Takes member before Q xs
-  takes-same [] s t = tt
-  takes-same (x ∷ xs) s t = (ready-same s (t .0), takes-same xs (plus-same x s) (t .1))
-
-  pub order-same : {P Q : ℕ → Type 0} (xs : List ℕ) → Same P Q → OrderFrom member before P xs → OrderFrom member before Q xs
-  order-same [] s o = λ x m. s .there x (o x m)
-  order-same (x ∷ xs) s o = (ready-same s (o .0), order-same xs (plus-same x s) (o .1))
-
   pub greedy-so-far-same : (rank : ℕ → ℕ) {P Q : ℕ → Type 0} (xs : List ℕ) → Same P Q → GreedySoFar rank P xs → GreedySoFar rank Q xs
   greedy-so-far-same rank [] s g = tt
   greedy-so-far-same rank (x ∷ xs) s g =
       (ready-same s (g .0), least-same rank s (g .1), greedy-so-far-same rank xs (plus-same x s) (g .2))
 
-  pub greedy-same : (rank : ℕ → ℕ) {P Q : ℕ → Type 0} (xs : List ℕ) → Same P Q → Greedy member before rank P xs → Greedy member before rank Q xs
-  greedy-same rank [] s g = none-ready-same s g
-  greedy-same rank (x ∷ xs) s g = (ready-same s (g .0), least-same rank s (g .1), greedy-same rank xs (plus-same x s) (g .2))
-
   -- ---- one list after another
-
-  pub takes-split :
-      (taken : ℕ → Type 0) (xs ys : List ℕ)
-      → Takes member before taken (xs ++ ys) → Takes member before taken xs × Takes member before (TakenBy taken xs) ys
-  takes-split taken [] ys t = (tt, takes-same ys (same-turned (by-nothing taken)) t)
-  takes-split taken (x ∷ xs) ys t =
-      let s = takes-split (Plus x taken) xs ys (t .1) in
-      ((t .0, s .0), takes-same ys (by-first taken x xs) (s .1))
-
-  pub takes-joined :
-      (taken : ℕ → Type 0) (xs ys : List ℕ)
-      → Takes member before taken xs → Takes member before (TakenBy taken xs) ys → Takes member before taken (xs ++ ys)
-  takes-joined taken [] ys t u = takes-same ys (by-nothing taken) u
-  takes-joined taken (x ∷ xs) ys t u =
-      (t .0, takes-joined (Plus x taken) xs ys (t .1) (takes-same ys (same-turned (by-first taken x xs)) u))
 
   pub greedy-so-far-joined :
       (rank : ℕ → ℕ) (taken : ℕ → Type 0) (xs ys : List ℕ)
@@ -112,11 +85,6 @@ module _ (member : ℕ → Type 0) (before : ℕ → ℕ → Type 0) where
   greedy-so-far-takes rank taken (x ∷ xs) g = (g .0, greedy-so-far-takes rank (Plus x taken) xs (g .2))
 
   -- ---- one more at the end, as a loop takes them
-
-  pub takes-one-more :
-      (xs : List ℕ) (x : ℕ)
-      → Takes member before None xs → Ready member before (λ y. In y xs) x → Takes member before None (xs ++ (x ∷ []))
-  takes-one-more xs x t r = takes-joined None xs (x ∷ []) t (ready-same (same-turned (by-all xs)) r, tt)
 
   pub greedy-one-more :
       (rank : ℕ → ℕ) (xs : List ℕ) (x : ℕ)

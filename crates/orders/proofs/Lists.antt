@@ -7,7 +7,7 @@ use Prim.Native.Nat.{ℕ, zero, suc, _≤_, _<_, suc-le-suc}
 use native.Mathlib.Nat.{le-of-suc-le-suc, not-suc-le-zero}
 use native.Mathlib.Omega.{arith}
 use native.Mathlib.Decide.{ℕ-discrete}
-use lib.ListN.{length, getD}
+use lib.ListN.{length, getD, take}
 use Rattle.orders.specs.Orders.{In, Distinct, Counted}
 
 -- ---- what is in a list
@@ -35,6 +35,13 @@ in-append-cases x [] ys h = inr h
 in-append-cases x (y ∷ xs) ys (inl e) = inl (inl e)
 in-append-cases x (y ∷ xs) ys (inr h) = elim (in-append-cases x xs ys h) [ inl g ↦ inl (inr g) | inr g ↦ inr g ]
 
+pub in-take : (x : ℕ) (ys : List ℕ) (k : ℕ) → In x (take k ys) → In x ys
+in-take x [] zero h = h
+in-take x [] (suc k) h = h
+in-take x (y ∷ ys) zero h = absurd h
+in-take x (y ∷ ys) (suc k) (inl e) = inl e
+in-take x (y ∷ ys) (suc k) (inr h) = inr (in-take x ys k h)
+
 -- ---- by places
 
 pub entry-in : (xs : List ℕ) (i : ℕ) → i < length xs → In (getD xs i 0) xs
@@ -53,6 +60,13 @@ distinct-entries-differ (x ∷ xs) d i zero b h e = not-suc-le-zero b
 distinct-entries-differ (x ∷ xs) d zero (suc j) b h e = d .0 (rw e (entry-in xs j (le-of-suc-le-suc h)))
 distinct-entries-differ (x ∷ xs) d (suc i) (suc j) b h e =
     distinct-entries-differ xs (d .1) i j (le-of-suc-le-suc b) (le-of-suc-le-suc h) e
+
+pub entries-differ-distinct : (xs : List ℕ) → ((i j : ℕ) → i < j → j < length xs → getD xs i 0 ≢ getD xs j 0) → Distinct xs
+entries-differ-distinct [] f = tt
+entries-differ-distinct (x ∷ xs) f = (
+  λ h. let (k, (b, e)) = in-has-place x xs h in f 0 (suc k) (omega arith) (omega arith) (sym e),
+  entries-differ-distinct xs (λ i j b h. f (suc i) (suc j) (omega arith) (omega arith)),
+)
 
 -- ---- lists without repeats
 

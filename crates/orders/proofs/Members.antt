@@ -3,11 +3,10 @@
 use mathlib.Core.Path.{_≡_, refl}
 use mathlib.Core.Logic.{_⊎_, inl, inr}
 use mathlib.Core.List.{List, [], _∷_}
-use Prim.Native.Nat.{ℕ, _≤_, _<_}
-use native.Mathlib.Omega.{arith}
+use Prim.Native.Nat.{ℕ}
 use lib.ListN.{length}
-use Rattle.orders.specs.Orders.{In, Distinct, None, Plus, Takes, OrderFrom, Order, Counted}
-use Rattle.orders.proofs.Lists.{distinct-within, distinct-same-length, distinct-fills, fewer-miss-one}
+use Rattle.orders.specs.Orders.{In, Distinct, None, Plus, Takes, OrderFrom, Order}
+use Rattle.orders.proofs.Lists.{distinct-same-length}
 
 -- what is taken after the list
 abbrev pub TakenBy : (ℕ → Type 0) → List ℕ → ℕ → Type 0
@@ -68,32 +67,7 @@ module _ (member : ℕ → Type 0) (before : ℕ → ℕ → Type 0) where
     pub order-has-all : (x : ℕ) → member x → In x xs
     order-has-all x m = elim (order-takes-all None xs order x m) [ inl h ↦ h | inr k ↦ absurd k ]
 
-    pub order-counts : Counted member (length xs)
-    order-counts = record { list = xs; once = order-distinct; all = order-has-all; only = order-members; long = refl }
-
   pub orders-equally-long : (xs ys : List ℕ) → Order member before xs → Order member before ys → length xs ≡ length ys
   orders-equally-long xs ys o p =
       distinct-same-length xs ys (order-distinct xs o) (order-distinct ys p)
       (λ x h. order-has-all ys p x (order-members xs o x h)) (λ x h. order-has-all xs o x (order-members ys p x h))
-
-  -- ---- by how many there are
-
-  module _ {n : ℕ} (counted : Counted member n) (xs : List ℕ) where
-    pub takes-at-most : Takes member before None xs → length xs ≤ n
-    takes-at-most t =
-        omega (
-          arith,
-          counted .long,
-          distinct-within xs (counted .list) (takes-distinct None xs t) (λ x h. counted .all x (takes-members None xs t x h)),
-        )
-
-    pub as-many-is-order : Takes member before None xs → n ≤ length xs → Order member before xs
-    as-many-is-order t l =
-        all-taken-is-order xs t λ x m.
-        distinct-fills xs (counted .list) (takes-distinct None xs t)
-        (λ y h. counted .all y (takes-members None xs t y h)) (omega (arith, counted .long)) x (counted .all x m)
-
-    pub fewer-leave-one : length xs < n → (x : ℕ) × (member x × (In x xs → ⊥))
-    fewer-leave-one l =
-        let m = fewer-miss-one xs (counted .list) (counted .once) (omega (arith, counted .long)) in
-        (m .0, (counted .only (m .0) (m .1 .0), m .1 .1))

@@ -27,13 +27,6 @@ module _ (member : ℕ → Type 0) (before : ℕ → ℕ → Type 0) where
   pub ring-behind : {x : ℕ} → OnRing member before x → Behind member before x
   ring-behind {x} c = record { ring = x; on-ring = c; follows = inl refl }
 
-  pub behind-member : {x : ℕ} → Behind member before x → member x
-  behind-member {x} b = go (b .follows)
-    where
-      go : (x ≡ b .ring) ⊎ Chain member before (b .ring) x → member x
-      go (inl e) = rw e (chain-starts (b .on-ring))
-      go (inr c) = chain-ends c
-
   chain-has-one-before :
       {r x : ℕ} → OnRing member before r → Chain member before r x → (y : ℕ) × (member y × (before y x × Behind member before y))
   chain-has-one-before {r} ring (one m n b) = (r, (m, (b, ring-behind ring)))

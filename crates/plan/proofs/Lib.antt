@@ -1,6 +1,5 @@
 pub mod Digits
 pub mod Placed
 pub mod Shown
-pub mod Numbered
 pub mod Planned
 pub mod Once

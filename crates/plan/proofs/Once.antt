@@ -4,7 +4,6 @@ use mathlib.Core.Path.{_≡_, refl, sym, ap, _∙_}
 use mathlib.Core.List.{List}
 use Prim.Native.Nat.{ℕ}
 use Rattle.answer.specs.declared.Answer.{Answer}
-use Rattle.study.specs.Study.{Action}
 use Rattle.study.specs.Reading.{Said, says, refused, reading}
 use Rattle.lawful.proofs.Loads.{loads-lawful}
 use Rattle.planning.proofs.Determined.{plans-determined}

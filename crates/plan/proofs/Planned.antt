@@ -10,6 +10,7 @@ use borrow.Author.Tests.{eq-eqb}
 use Rattle.answer.specs.declared.Answer.{Answer}
 use Rattle.study.specs.Study.{Action, Study, actionAt}
 use Rattle.study.specs.Reading.{Said, says, refused, reading}
+use Rattle.study.proofs.Refusals.{NumberedIfRefused, refusals-numbered}
 use Rattle.plans.specs.Plans.{State, Runs, after}
 use Rattle.planning.specs.Planning.{Plans, wrong-length, wrong-entry, no-walk, off-walk, ring, no-room, a-plan}
 use Rattle.planner.specs.Seeded.{PlansSeeded}
@@ -17,9 +18,8 @@ use Rattle.loader.specs.Tables.{Tables, Holds}
 use Rattle.loader.specs.Steps.{Loads}
 use Rattle.loader.specs.declared.Loaded.{Loaded}
 use Rattle.loader.specs.declared.Loaded.the-variants as Load
-use Rattle.plan.specs.Text.{Shown, shownOf, shownIn, planText, firstLine}
+use Rattle.plan.specs.Text.{shownOf, shownIn, planText, firstLine}
 use Rattle.plan.specs.Printed.{actionsOf, Printed}
-use Rattle.plan.proofs.Numbered.{Numbered, reading-numbered}
 use Rattle.plan.proofs.Shown.{Agree, lines-agree}
 
 runs-usable :
@@ -53,12 +53,12 @@ plans-planned {t} {before = before} (a-plan {list} _ p fits) l e =
 
 said-planned :
     (said : Said) {r : Answer} {buffer : List ℕ}
-    → Numbered said → PlansSeeded said (replicate 256 0) r buffer → r .number ≡ 0 → Planned said r buffer
+    → NumberedIfRefused said → PlansSeeded said (replicate 256 0) r buffer → r .number ≡ 0 → Planned said r buffer
 said-planned (says t) n p e = plans-planned p refl e
 said-planned (refused number place) n p e = absurd (omega (arith, ap (λ (a : Answer). a .number) (p .0)))
 
 pub planned : (file : List ℕ) {r : Answer} {buffer : List ℕ} → PlansSeeded (reading file) (replicate 256 0) r buffer → r .number ≡ 0 → Planned (reading file) r buffer
-planned file p e = said-planned (reading file) (reading-numbered file) p e
+planned file p e = said-planned (reading file) (refusals-numbered file) p e
 
 pub printed-plan :
     {said : Said} {r : Answer} {buffer text : List ℕ}

@@ -115,26 +115,6 @@ less t x (z ∷ ys) (inr h) =
     }
 
 module _ (t : Study) (u q : ℕ) where
-  -- a value that an action of the list wants is counted
-  pub wanted-some : (list : List ℕ) (i : ℕ) → In i list → Wants (conditionsOf t i) u q → wanted t list u q ≢ 0
-  wanted-some list i h w e =
-      omega (arith, less t i list h .one-less u q, ap one (wants-tells (conditionsOf t i) u q w))
-
-  -- .. and what is counted, some action of the list wants
-  pub wanted-by : (list : List ℕ) → wanted t list u q ≢ 0 → (i : ℕ) × (In i list × Wants (conditionsOf t i) u q)
-  unfolding wanted
-  wanted-by [] some = absurd (some refl)
-  wanted-by (i ∷ rest) some = from (wants (conditionsOf t i) u q) refl (wanted-by rest)
-    where
-      from :
-          (b : Bool) → wants (conditionsOf t i) u q ≡ b
-          → (wanted t rest u q ≢ 0 → (j : ℕ) × (In j rest × Wants (conditionsOf t j) u q))
-          → (j : ℕ) × (In j (i ∷ rest) × Wants (conditionsOf t j) u q)
-      from true e more = (i, (inl refl, wants-told (conditionsOf t i) u q e))
-      from false e more =
-          let (j, (h, w)) = more (λ z. some (omega (arith, z, ap one e))) in
-          (j, (inr h, w))
-
   pub wanted-within : (xs ys : List ℕ) → Distinct xs → ((x : ℕ) → In x xs → In x ys) → wanted t xs u q ≤ wanted t ys u q
   unfolding wanted
   wanted-within [] ys d f = omega arith

@@ -10,11 +10,11 @@ use lib.ListN.{length, getD, set, length-append, List·getD-append}
 use lib.Seq.{getD-set-same, getD-set-other, getD-append-seam}
 use Rattle.study.specs.Study.{Study}
 use Rattle.lawful.specs.Lawful.{Lawful}
-use Rattle.walks.specs.Walks.{preOf, startOf}
+use Rattle.walks.specs.Walks.{Way, preOf, startOf}
 use Rattle.walks.proofs.Leads.{leads-each}
-use Rattle.planner.specs.Rows.{RowTo, EmptyRow, Way, Enters}
+use Rattle.walks.proofs.Ways.{way-ends-once}
+use Rattle.planner.specs.Rows.{RowTo, EmptyRow, Enters}
 use Rattle.planner.proofs.Ranges.{pre-small}
-use Rattle.planner.proofs.Ways.{way-ends-once}
 
 pub enters-nothing : (t : Study) (v : ℕ) (steps : List ℕ) → Enters t v [] steps steps
 enters-nothing t v steps = record { leaves = λ k h. absurd (omega arith); stays = λ j f. refl }

@@ -2,15 +2,15 @@
 -- Assumes nothing.
 use mathlib.Core.Path.{_≡_, refl, sym, ap, subst, _∙_}
 use mathlib.Core.Logic.{_≢_, _⊎_, inl, inr}
-use mathlib.Core.List.{List, [], _∷_}
-use Prim.Native.Nat.{ℕ, zero, suc, _+_, _-_, _*_, _≤_, _<_}
+use mathlib.Core.List.{List}
+use Prim.Native.Nat.{ℕ, _+_, _*_, _≤_, _<_}
 use native.Mathlib.Omega.{arith}
 use native.Mathlib.Decide.{ℕ-discrete}
 use lib.ListN.{length, getD, set, replicate, length-set, getD-replicate}
 use lib.Seq.{getD-set-same, getD-set-other}
-use Rattle.planner.specs.Taking.{HoldsAt, HoldUpTo, Lowerable, loweredAll, stepOf, LooksReady}
-use Rattle.planner.specs.Keys.{shut, keyOf, nextKey, openKey, freedAll, EnteredTo, Woken, Roused, Unwanted, Waits, Keyed}
-use Rattle.planner.proofs.Keys.{Bytes, next-key, next-low, open-unwanted, opened-key, next-same}
+use Rattle.planner.specs.Taking.{Lowerable, loweredAll, stepOf, LooksReady}
+use Rattle.planner.specs.Keys.{shut, nextKey, openKey, freedAll, EnteredTo, Woken, Roused, Unwanted, Waits, Keyed}
+use Rattle.planner.proofs.Keys.{Bytes, next-low, open-unwanted, opened-key, next-same}
 use Rattle.planner.proofs.Freed.{all-lowered-at-most, all-freed-length, freed-when-unwanted, freed-or-stays}
 
 -- what a variable's own key tells, where it is as it was entered

@@ -1,6 +1,5 @@
 pub mod Setters
 pub mod Ranges
-pub mod Ways
 pub mod Few
 pub mod Entering
 pub mod TraceEnds

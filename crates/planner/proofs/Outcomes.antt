@@ -11,7 +11,7 @@ use Rattle.ranking.specs.Ranking.{tested}
 use Rattle.ranking.specs.declared.Tested.the-variants.{Fine}
 use Rattle.ranking.proofs.Fine.{fine-is-rank-list}
 use Rattle.study.specs.Study.{Study}
-use Rattle.orders.specs.Orders.{In, None, Takes}
+use Rattle.orders.specs.Orders.{None, Takes}
 use Rattle.orders.proofs.Lists.{fewer-miss-one, distinct-fills}
 use Rattle.orders.proofs.Members.{takes-distinct, takes-members}
 use Rattle.orders.proofs.Grown.{greedy-so-far, greedy-so-far-takes}

@@ -1,7 +1,7 @@
 -- From one stage to the next: what is known of the study in the tables that each function is lent.
 -- Assumes nothing.
 use mathlib.Core.Path.{_≡_, refl, sym, _∙_}
-use mathlib.Core.Logic.{_⊎_, inl, inr}
+use mathlib.Core.Logic.{inl, inr}
 use mathlib.Core.List.{List, [], _∷_}
 use Prim.Native.Nat.{ℕ, zero, suc}
 use native.Mathlib.Omega.{arith}
@@ -19,7 +19,7 @@ use Rattle.study.specs.Reading.{says, reading}
 use Rattle.lawful.proofs.Loads.{loads-lawful}
 use Rattle.planning.specs.Planning.{Plans, wrong-length, wrong-entry}
 use Rattle.walks.specs.Walks.{Met, startOf, goalOf}
-use Rattle.planner.specs.Facts.{Tells, Moves, Wishes, Deeds}
+use Rattle.planner.specs.Facts.{Tells, Moves}
 use Rattle.planner.specs.Rows.{Rowed, Members}
 use Rattle.planner.specs.Wanting.{Counts}
 use Rattle.planner.specs.Taking.{Prepared}

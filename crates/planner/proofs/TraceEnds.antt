@@ -9,9 +9,9 @@ use lib.ListN.{length, set, length-append}
 use Rattle.study.specs.Study.{Study}
 use Rattle.lawful.specs.Lawful.{Lawful}
 use Rattle.walks.specs.Walks.{preOf, startOf}
+use Rattle.walks.proofs.Ways.{way-empty, way-longer, way-shorter}
 use Rattle.planner.specs.Rows.{SetterIs, WayEntered, NoWayWithin, noWalk, Traces}
 use Rattle.planner.specs.declared.tracing.Named.the-variants.{Is, Nobody}
-use Rattle.planner.proofs.Ways.{way-empty, way-longer, way-shorter}
 use Rattle.planner.proofs.Entering.{enters-nothing, enters-longer}
 
 module _ (t : Study) (v q left passed : ℕ) (steps : List ℕ) where

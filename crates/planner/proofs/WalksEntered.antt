@@ -14,7 +14,7 @@ use Rattle.walks.specs.Walks.{Walk, OnAWalk, varOf, preOf, startOf, goalOf}
 use Rattle.orders.proofs.Lists.{in-append-left, in-append-right, in-append-cases, distinct-append}
 use Rattle.walks.proofs.Leads.{leads-in}
 use Rattle.walks.proofs.Unique.{walk-unique, walk-distinct, walk-there}
-use Rattle.planner.specs.Rows.{RowTo, EmptyRow, Way, WayEntered, NoWayWithin, Rowed, WalksAll}
+use Rattle.planner.specs.Rows.{RowTo, EmptyRow, WayEntered, NoWayWithin, Rowed, WalksAll}
 use Rattle.planning.specs.Planning.{LowestWithout}
 use Rattle.planner.specs.declared.tracing.Walked.the-variants.{All}
 use Rattle.planner.proofs.Ranges.{pre-small, goal-small, few-tasks}
@@ -44,12 +44,6 @@ none-entered t steps empty =
       members = record { once = tt; all = λ x o h. absurd (omega arith); only = λ x h. absurd h };
       long = refl;
     }
-
-way-walk : {t : Study} {v : ℕ} {list : List ℕ} → Way t v (goalOf t v) list → Walk t v list
-way-walk w = record { leads = w .leads; ends-at-start = w .ends-at-start }
-
-walk-way : {t : Study} {v : ℕ} {list : List ℕ} → Walk t v list → Way t v (goalOf t v) list
-walk-way w = record { leads = w .leads; ends-at-start = w .ends-at-start }
 
 module _ {t : Study} (lawful : Lawful t) where
   -- a row stays where another is written
@@ -99,7 +93,7 @@ module _ {t : Study} (lawful : Lawful t) where
             rowed = λ u h. rows u h (decLt u v);
             rest-empty = λ u h g x b. same u x (omega arith) b ∙ entered .rest-empty u (omega arith) g x b;
             list = entered .list ++ walk;
-            members = members-longer (entered .list) walk (entered .members) (way-walk way);
+            members = members-longer (entered .list) walk (entered .members) way;
             long = omega (arith, length-append (entered .list) walk, entered .long, e);
           }
         where
@@ -119,13 +113,13 @@ module _ {t : Study} (lawful : Lawful t) where
           rows u h (yes g) =
               let (list, (w, r)) = entered .rowed u g in
               (list, (w, row-stays v u steps steps′ list (omega arith) (omega arith) same w r))
-          rows u h (no g) = let f : u ≡ v = omega arith in rw f (walk, (way-walk way, row))
+          rows u h (no g) = let f : u ≡ v = omega arith in rw f (walk, (way, row))
 
       pub without-walk : NoWayWithin t v (goalOf t v) 16 → LowestWithout t v
       without-walk none =
           record {
             there = there;
-            without = λ list walk. omega (arith, none list (walk-way walk), walk-short lawful walk);
+            without = λ list walk. omega (arith, none list walk, walk-short lawful walk);
             lower = λ u h. let (list, (w, r)) = entered .rowed u h in (list, w);
           }
 

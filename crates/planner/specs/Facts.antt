@@ -1,10 +1,10 @@
 -- What the loaded tables tell of a study, one fact for each table that a function is lent.
 -- Assumes nothing.
-use Prim.Native.Nat.{ℕ, _+_, _*_, _≤_, _<_}
+use Prim.Native.Nat.{ℕ, _+_, _*_, _<_}
 use mathlib.Core.Path.{_≡_}
 use mathlib.Core.List.{List}
 use lib.ListN.{length, getD}
-use Rattle.study.specs.Study.{Study, taskAt}
+use Rattle.study.specs.Study.{Study}
 use Rattle.lawful.specs.Lawful.{Lawful}
 use Rattle.loader.specs.Tables.{HoldsConditions}
 use Rattle.walks.specs.Walks.{varOf, preOf, postOf, conditionsOf}

@@ -7,7 +7,7 @@ use mathlib.Core.List.{List}
 use lib.ListN.{length, getD}
 use Rattle.study.specs.Study.{Study}
 use Rattle.orders.specs.Orders.{In, Distinct}
-use Rattle.walks.specs.Walks.{Leads, Walk, OnAWalk, varOf, preOf, postOf, startOf, goalOf}
+use Rattle.walks.specs.Walks.{Way, Walk, OnAWalk, varOf, preOf, postOf, goalOf}
 use Rattle.planning.specs.Planning.{LowestWithout}
 use Rattle.planner.specs.declared.tracing.Named.{Named}
 use Rattle.planner.specs.declared.tracing.Named.the-variants.{Is, Nobody}
@@ -28,11 +28,6 @@ pub record RowTo (t : Study) (v : ℕ) (list : List ℕ) (q : ℕ) (steps : List
 -- row v is empty
 abbrev pub EmptyRow : ℕ → List ℕ → Type 0
 EmptyRow v steps = (x : ℕ) → x < 16 → getD steps (16 * v + x) 0 ≡ 0
-
--- a list that leads from the start to q, and does not set the start
-pub record Way (t : Study) (v q : ℕ) (list : List ℕ) : Type 0 where
-  pub leads : Leads t v (startOf t v) list q
-  pub ends-at-start : (i : ℕ) → In i list → postOf t i ≢ startOf t v
 
 -- a list is entered in row v: at the value that each action leaves, 2 more than the action; every other entry stays
 pub record Enters (t : Study) (v : ℕ) (list steps steps′ : List ℕ) : Type 0 where

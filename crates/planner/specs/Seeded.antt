@@ -7,7 +7,6 @@ use lib.ListN.{length}
 use Rattle.answer.specs.Answers.{refusal}
 use Rattle.answer.specs.declared.Answer.{Answer}
 use Rattle.draw.specs.Draw.{drawn}
-use Rattle.study.specs.Study.{Study}
 use Rattle.study.specs.Reading.{Said, says, refused}
 use Rattle.planning.specs.Planning.{Plans}
 

@@ -11,7 +11,7 @@ use Rattle.ranks.specs.Ranks.{one}
 use Rattle.study.specs.Study.{Condition, Study, conditionAt}
 use Rattle.lawful.specs.Lawful.{Lawful}
 use Rattle.loader.specs.Tables.{HoldsConditions}
-use Rattle.walks.specs.Walks.{OnAWalk, ValueOnWalk, Wants, Met, conditionsOf}
+use Rattle.walks.specs.Walks.{Met, conditionsOf}
 use Rattle.planning.specs.Planning.{LowestOff}
 use Rattle.planner.specs.Rows.{Members}
 use Rattle.planner.specs.declared.wanting.Wanted.{Wanted}

@@ -1,8 +1,8 @@
 // Plans what was loaded.
 ghost use mathlib.Core.Path.{_≡_};
 ghost use mathlib.Core.List.{_++_};
-ghost use Prim.Native.Nat.{ℕ, _+_, _*_, _≤_, _<_};
-ghost use lib.ListN.{length, getD, take, drop};
+ghost use Prim.Native.Nat.{_≤_};
+ghost use lib.ListN.{length, take, drop};
 ghost use Rattle.study.specs.Study.{Study};
 ghost use Rattle.loader.specs.Tables.{actionTables};
 ghost use Rattle.planning.specs.Planning.{Plans};

@@ -1,7 +1,7 @@
 // Takes one ready walk action after another, always the one of least rank.
 ghost use mathlib.Core.Path.{_≡_};
 ghost use mathlib.Core.List.{List};
-ghost use Prim.Native.Nat.{ℕ, _+_, _*_, _≤_, _<_};
+ghost use Prim.Native.Nat.{ℕ, _+_, _≤_, _<_};
 ghost use lib.ListN.{length, getD, take, set};
 ghost use Rattle.study.specs.Study.{Study};
 ghost use Rattle.planner.specs.Taking.{Prepared, TakenGreedily, Readable, FirstOpen, Lowerable, loweredAll, stepOf, Noted, Guarded, Chosen};

@@ -14,7 +14,7 @@ use Rattle.ranking.proofs.Fine.{fine-is-rank-list}
 use Rattle.study.specs.Study.{Study}
 use Rattle.study.specs.Reading.{Said, says, refused, reading}
 use Rattle.lawful.specs.Lawful.{Lawful}
-use Rattle.lawful.proofs.Loads.{LawfulIfSaid, loads-lawful}
+use Rattle.lawful.proofs.Loads.{LawfulIfSaid, reading-lawful}
 use Rattle.orders.proofs.Lists.{counted-unique}
 use Rattle.planning.specs.Planning.{LowestWithout, LowestOff, Plans, PlansFile}
 use Rattle.planning.proofs.Bars.{without-bars-walks, off-bars-met}
@@ -97,8 +97,4 @@ plans-file-determined (refused number place) lawful ranks before p q = (p .0 ∙
 pub file-plans-determined :
     (file ranks before : List ℕ) {r r′ : Answer} {after after′ : List ℕ}
     → PlansFile (reading file) ranks before r after → PlansFile (reading file) ranks before r′ after′ → (r ≡ r′) × (after ≡ after′)
-file-plans-determined file ranks before = plans-file-determined (reading file) (lawful (reading file) refl) ranks before
-  where
-    lawful : (said : Said) → reading file ≡ said → LawfulIfSaid said
-    lawful (says t) e = loads-lawful file t e
-    lawful (refused number place) e = tt
+file-plans-determined file = plans-file-determined (reading file) (reading-lawful file)

@@ -1,13 +1,11 @@
 -- What planning answers: 9, 10, 11, 12, 13, or 0 with the plan. Dictionary order is over all straight plans.
 -- Assumes nothing.
-use Prim.Native.Nat.{ℕ, _+_, _≤_, _<_}
+use Prim.Native.Nat.{ℕ, _≤_, _<_}
 use mathlib.Core.Path.{_≡_}
-use mathlib.Core.Logic.{_≢_}
-use mathlib.Core.List.{List, [], _∷_, _++_}
+use mathlib.Core.List.{List, _++_}
 use lib.ListN.{length, getD, drop}
 use Rattle.answer.specs.Answers.{three, done, refusal}
 use Rattle.answer.specs.declared.Answer.{Answer}
-use Rattle.ranks.specs.Ranks.{RankList}
 use Rattle.ranking.specs.Ranking.{tested}
 use Rattle.ranking.specs.declared.Tested.the-variants.{Fine, Length, Entry}
 use Rattle.study.specs.Study.{Study}

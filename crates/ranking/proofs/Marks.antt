@@ -1,9 +1,9 @@
 -- The marks of the entries met so far, and the test one entry on.
 -- Assumes nothing.
-use mathlib.Core.Path.{_≡_, refl, sym, ap, _∙_}
-use mathlib.Core.Bool.{Bool, true, false, not, _||_}
+use mathlib.Core.Path.{_≡_, refl, sym, _∙_}
+use mathlib.Core.Bool.{not, _||_}
 use mathlib.Core.List.{List, [], _∷_}
-use Prim.Native.Nat.{ℕ, zero, suc, _+_, _≤_, _<_}
+use Prim.Native.Nat.{ℕ, suc, _+_, _≤_, _<_}
 use native.Mathlib.Numerals.{add-one}
 use native.Mathlib.Decide.{ℕ-discrete}
 use native.Mathlib.Omega.{arith}
@@ -12,9 +12,8 @@ use lib.ListN.{length, getD, drop, set, length-set, replicate, getD-replicate}
 use lib.Seq.{drop-cons, drop-length, getD-set-same, getD-set-other}
 use borrow.Author.Tests.{eq-eqb, ne-eqb, le-leb, lt-leb}
 use Rattle.plain.specs.Choose.{pick}
-use Rattle.ranking.specs.declared.Tested.{Tested}
-use Rattle.ranking.specs.declared.Tested.the-variants.{Fine, Length, Entry}
-use Rattle.ranking.specs.Ranking.{among, testedFrom, tested}
+use Rattle.ranking.specs.declared.Tested.the-variants.{Fine, Entry}
+use Rattle.ranking.specs.Ranking.{among, testedFrom}
 
 -- after k entries the earlier ones are marked, and what is left to test gives what the whole does
 pub record Marked (ranks : List ℕ) (actions k : ℕ) (met : List ℕ) : Type 0 where

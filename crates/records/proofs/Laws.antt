@@ -1,20 +1,17 @@
 -- Laws of records: how long a body is, and where a record that is there lies.
 -- Assumes nothing.
-use mathlib.Core.Path.{_≡_, refl, ap, sym, _∙_, subst}
-use mathlib.Core.Bool.{Bool, true, false, _&&_}
-use mathlib.Core.Logic.{_⊎_, inl, inr}
+use mathlib.Core.Path.{_≡_, sym, _∙_}
+use mathlib.Core.Logic.{inl, inr}
 use mathlib.Core.List.{List, [], _∷_}
 use Prim.Native.Nat.{ℕ, zero, suc, _+_, _≤_, _<_}
 use native.Mathlib.Nat.{sub-self}
 use native.Mathlib.Omega.{arith}
 use native.Mathlib.Decide.{decLe, decLt}
-use lib.Dec.{leb, ltb}
 use lib.ListN.{length, getD}
-use borrow.Author.Tests.{ltb-true, ltb-false, leb-true, leb-false, lt-ltb, le-ltb, le-leb, lt-leb}
+use borrow.Author.Tests.{lt-ltb, le-ltb, le-leb, lt-leb}
 use types.Run.{OneOf}
 use denote.Enum.Declared.{tagOf}
-use Rattle.plain.specs.Choose.{pick}
-use Rattle.records.specs.Records.{bodyLength, bodyLengths, known, recordOf, recordAt, part, startOf, nextOf}
+use Rattle.records.specs.Records.{bodyLength, bodyLengths, recordOf, recordAt, part, startOf, nextOf}
 use Rattle.records.specs.declared.Found.{Found}
 use Rattle.records.proofs.Found.{the-type}
 use Rattle.records.specs.declared.Found.the-variants.{There, Unknown, Cut, Ended}

@@ -1,27 +1,19 @@
 -- What was loaded is all that a run needs.
 -- Assumes nothing.
-use mathlib.Core.Path.{_≡_, refl, sym, _∙_}
-use mathlib.Core.List.{List, [], _∷_}
-use Prim.Native.Nat.{ℕ, zero, suc, _<_}
+use mathlib.Core.Path.{_≡_, sym, _∙_}
+use mathlib.Core.List.{List}
+use Prim.Native.Nat.{ℕ, _<_}
 use native.Mathlib.Omega.{arith}
-use lib.ListN.{length, getD, replicate}
+use lib.ListN.{length, getD}
 use lib.Seq.{getD-take, length-take-le, ext-getD}
-use Rattle.study.specs.Study.{Task, Study, actionAt, taskAt}
+use Rattle.study.specs.Study.{Study, actionAt}
 use Rattle.study.specs.Reading.{says, reading}
 use Rattle.lawful.specs.Lawful.{Lawful}
 use Rattle.lawful.proofs.Loads.{loads-lawful}
-use Rattle.plans.specs.Plans.{startsOf, startState}
-use Rattle.loader.specs.Tables.{Tables, Sized, Holds, tables, actionTables}
+use Rattle.plans.specs.Plans.{startState}
+use Rattle.plans.proofs.States.{start-value, start-length}
+use Rattle.loader.specs.Tables.{Tables, Holds}
 use Rattle.running.specs.Running.{Guarded, Prepared, shown}
-
-length-starts : (tasks : List Task) → length (startsOf tasks) ≡ length tasks
-length-starts [] = refl
-length-starts (k ∷ rest) = rw (length-starts rest)
-
-start-at : (tasks : List Task) (v : ℕ) → getD (startsOf tasks) v 0 ≡ taskAt tasks v .start
-start-at [] v = refl
-start-at (k ∷ rest) zero = refl
-start-at (k ∷ rest) (suc v) = start-at rest v
 
 module _ {file : List ℕ} {n actions x : ℕ} {tables : Tables} {t : Study} (says-so : reading file ≡ says t) (holds : Holds file n actions x tables t) where
   lawful : Lawful t
@@ -42,10 +34,10 @@ module _ {file : List ℕ} {n actions x : ℕ} {tables : Tables} {t : Study} (sa
   starts-shown : shown t (tables .starts) ≡ startState t
   starts-shown =
       let long = length-take-le (length (t .counts)) (tables .starts) (omega (arith, holds .sized .starts, lawful .few-variables)) in
-      ext-getD 0 (shown t (tables .starts)) (startState t) (omega (arith, long, length-starts (t .tasks), lawful .a-task-each))
+      ext-getD 0 (shown t (tables .starts)) (startState t) (omega (arith, long, start-length t, lawful .a-task-each))
       (λ v h.
       getD-take (length (t .counts)) (tables .starts) v 0 (omega (arith, long, h))
-      ∙ holds .tasks .start v (omega (arith, long, h, holds .counts .count)) ∙ sym (start-at (t .tasks) v))
+      ∙ holds .tasks .start v (omega (arith, long, h, holds .counts .count)) ∙ sym (start-value t v))
 
   small-starts : (v : ℕ) → v < n → getD (tables .starts) v 0 < 16
   small-starts v h =

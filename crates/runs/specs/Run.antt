@@ -1,10 +1,10 @@
 -- What running a list answers: 1 to 8, then 13, then step by step 14, 15, 16, then 17; or 0 with the number of variables, and the end state in the buffer.
 -- Assumes nothing.
-use Prim.Native.Nat.{ℕ, suc, _+_}
-use mathlib.Core.Bool.{Bool, true, false, not, _&&_, _||_}
+use Prim.Native.Nat.{ℕ, _+_}
+use mathlib.Core.Bool.{Bool, false, _||_}
 use mathlib.Core.List.{List, [], _∷_, _++_}
 use lib.Dec.{leb, ltb, eqb}
-use lib.ListN.{length, getD, drop}
+use lib.ListN.{length, drop}
 use Rattle.plain.specs.Choose.{pick}
 use Rattle.answer.specs.Answers.{three, done, refusal}
 use Rattle.answer.specs.declared.Answer.{Answer}

@@ -1,2 +1,4 @@
 pub mod Setters
 pub mod Verdicts
+pub mod Readings
+pub mod Refusals

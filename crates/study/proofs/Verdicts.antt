@@ -1,14 +1,13 @@
 -- The verdict on a record, case by case.
 -- Assumes nothing.
-use mathlib.Core.Path.{_≡_, refl, ap, _∙_}
+use mathlib.Core.Path.{_≡_, ap}
 use mathlib.Core.Bool.{true, false}
 use mathlib.Core.List.{List}
-use Prim.Native.Nat.{ℕ, zero, suc, _+_}
-use lib.ListN.{length}
+use Prim.Native.Nat.{ℕ, suc}
 use Rattle.records.specs.Records.{recordAt}
 use Rattle.records.specs.declared.Found.{Found}
 use Rattle.records.specs.declared.Found.the-variants.{There}
-use Rattle.study.specs.Reading.{Said, says, refused, Draft, Verdict, settled, onward, allowed, fault, recordFrom, taken, unless, judged, verdictAt, follow, readOn}
+use Rattle.study.specs.Reading.{Said, refused, Draft, settled, onward, allowed, fault, recordFrom, taken, unless, judged, verdictAt, readOn}
 
 module _ (file : List ℕ) (at : ℕ) (d : Draft) where
   pub verdict-by : {f : Found} → recordAt file at ≡ f → verdictAt file at d ≡ judged file at d f

@@ -9,7 +9,7 @@ use Rattle.plain.specs.Choose.{pick}
 use Rattle.records.specs.Records.{recordAt, numberOf}
 use Rattle.records.specs.declared.Found.{Found}
 use Rattle.records.specs.declared.Found.the-variants.{There, Unknown, Cut, Ended}
-use Rattle.study.specs.Study.{Condition, Action, Task, Study, noAction, actionAt}
+use Rattle.study.specs.Study.{Condition, Action, Study, actionAt}
 
 -- what a file says
 pub data Said : Type 0 where

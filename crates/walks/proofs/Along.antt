@@ -7,11 +7,10 @@ use Prim.Native.Nat.{ℕ, zero, suc, _≤_, _<_}
 use native.Mathlib.Omega.{arith}
 use lib.ListN.{length, getD}
 use Rattle.study.specs.Study.{Study}
-use Rattle.plans.specs.Plans.{Usable}
 use Rattle.orders.specs.Orders.{In}
 use Rattle.walks.specs.Walks.{Walk, OnAWalk, ValueOnWalk, preOf, postOf, startOf, goalOf}
 use Rattle.orders.proofs.Lists.{entry-in, in-has-place}
-use Rattle.walks.proofs.Unique.{walk-there, walk-var, walk-first, walk-next, walk-last, walk-empty}
+use Rattle.walks.proofs.Unique.{walk-var, walk-first, walk-next, walk-last, walk-empty}
 
 -- the value of a variable after the first k actions of its walk
 abbrev pub reached : Study → ℕ → List ℕ → ℕ → ℕ

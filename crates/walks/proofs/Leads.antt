@@ -1,13 +1,12 @@
--- Lists of actions that lead a variable from one value to another: joined, cut, by their last action, and place by place; an action on a walk is one that may be used.
+-- Lists of actions that lead a variable from one value to another: joined, by their last action, and place by place; an action on a walk is one that may be used.
 -- Assumes nothing.
-use mathlib.Core.Path.{_≡_, refl, sym, ap, _∙_}
+use mathlib.Core.Path.{_≡_, refl, sym, ap}
 use mathlib.Core.Logic.{_⊎_, inl, inr}
-use mathlib.Core.List.{List, [], _∷_, _++_, append-nil, append-assoc}
+use mathlib.Core.List.{List, [], _∷_, _++_}
 use Prim.Native.Nat.{ℕ, zero, suc, _<_}
 use native.Mathlib.Omega.{arith}
-use lib.ListN.{length, getD}
+use lib.ListN.{length, getD, take}
 use Rattle.study.specs.Study.{Study}
-use Rattle.lawful.specs.Lawful.{PostUnique}
 use Rattle.plans.specs.Plans.{Usable}
 use Rattle.orders.specs.Orders.{In}
 use Rattle.walks.specs.Walks.{varOf, preOf, postOf, startOf, goalOf, Leads, OnAWalk}
@@ -50,45 +49,6 @@ module _ (t : Study) (v : ℕ) where
         leads = (u, (i, (e, l .leads)));
       })
 
-  -- what stands after an action leads on from what it sets; it is shorter than the whole and has nothing new
-  pub record Onward (x : ℕ) (xs : List ℕ) (q : ℕ) : Type 0 where
-    pub rest : List ℕ
-    pub leads : Leads t v (postOf t x) rest q
-    pub shorter : length rest < length xs
-    pub only : (i : ℕ) → In i rest → In i xs
-
-  pub leads-onward : (x p : ℕ) (xs : List ℕ) (q : ℕ) → Leads t v p xs q → In x xs → Onward x xs q
-  leads-onward x p [] q a h = absurd h
-  leads-onward x p (y ∷ xs) q (u, (i, (e, a))) (inl f) = record { rest = xs; leads = rw f a; shorter = omega arith; only = λ j g. inr g }
-  leads-onward x p (y ∷ xs) q (u, (i, (e, a))) (inr h) =
-      let w = leads-onward x (postOf t y) xs q a h in
-      record { rest = w .rest; leads = w .leads; shorter = omega arith; only = λ j g. inr (w .only j g) }
-
-  -- the first list ends with the second, and what stands before it leads there
-  pub record EndsWith (p : ℕ) (xs : List ℕ) (m : ℕ) (ys : List ℕ) : Type 0 where
-    pub front : List ℕ
-    pub is : xs ≡ front ++ ys
-    pub leads : Leads t v p front m
-
-  -- post-unique: of two lists that lead to one value, one ends with the other
-  module _ (unique : PostUnique (t .actions)) where
-    pub one-ends-with-other :
-        (p : ℕ) (xs : List ℕ) (m : ℕ) (ys : List ℕ) (q : ℕ)
-        → Leads t v p xs q → Leads t v m ys q → EndsWith p xs m ys ⊎ EndsWith m ys p xs
-    one-ends-with-other p [] m ys q a b = inr (record { front = ys; is = sym (append-nil ys); leads = rw a b })
-    one-ends-with-other p (x ∷ xs) m ys q (u, (i, (e, a))) b = from (one-ends-with-other (postOf t x) xs m ys q a b)
-      where
-        back : (w : EndsWith m ys (postOf t x) xs) → ((w .front ≡ []) × (m ≡ postOf t x)) ⊎ Last m (w .front) (postOf t x)
-            → EndsWith p (x ∷ xs) m ys ⊎ EndsWith m ys p (x ∷ xs)
-        back w (inl (n, f)) = inl (record { front = x ∷ []; is = rw (w .is, n); leads = (u, (i, (e, sym f))) })
-        back w (inr l) =
-            let z : l .last ≡ x = unique (l .last) x (l .usable) u (l .var ∙ sym i) (l .post) in
-            inr (record { front = l .front; is = rw (w .is, l .is, append-assoc, z); leads = rw (z, e) at (l .leads) })
-
-        from : EndsWith (postOf t x) xs m ys ⊎ EndsWith m ys (postOf t x) xs → EndsWith p (x ∷ xs) m ys ⊎ EndsWith m ys p (x ∷ xs)
-        from (inl w) = inl (record { front = x ∷ w .front; is = ap (λ (r : List ℕ). x ∷ r) (w .is); leads = (u, (i, (e, w .leads))) })
-        from (inr w) = back w (leads-last m (w .front) (postOf t x) (w .leads))
-
 -- place by place
 module _ (t : Study) (v : ℕ) where
   pub leads-each :
@@ -114,6 +74,13 @@ module _ (t : Study) (v : ℕ) where
   leads-end p (x ∷ []) q (u, (i, (e, a))) zero h = a
   leads-end p (x ∷ y ∷ xs) q (u, (i, (e, a))) zero h = absurd (omega arith)
   leads-end p (x ∷ xs) q (u, (i, (e, a))) (suc k) h = leads-end (postOf t x) xs q a k (omega arith)
+
+  pub leads-cut :
+      (p : ℕ) (xs : List ℕ) (q : ℕ) → Leads t v p xs q
+      → (k : ℕ) → k < length xs → Leads t v p (take k xs) (preOf t (getD xs k 0))
+  leads-cut p [] q a k h = absurd (omega arith)
+  leads-cut p (x ∷ xs) q (u, (i, (e, a))) zero h = sym e
+  leads-cut p (x ∷ xs) q (u, (i, (e, a))) (suc k) h = (u, (i, (e, leads-cut (postOf t x) xs q a k (omega arith))))
 
   pub leads-nowhere : (p : ℕ) (xs : List ℕ) (q : ℕ) → Leads t v p xs q → length xs ≡ 0 → p ≡ q
   leads-nowhere p [] q a h = a

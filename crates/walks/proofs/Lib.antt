@@ -1,5 +1,5 @@
-pub mod Joined
 pub mod Leads
+pub mod Ways
 pub mod Unique
 pub mod Wanted
 pub mod Steps

@@ -5,7 +5,7 @@ use mathlib.Core.Path.{_≡_}
 use mathlib.Core.Logic.{_⊎_, _≢_}
 use mathlib.Core.List.{List, [], _∷_}
 use lib.ListN.{length}
-use Rattle.study.specs.Study.{Condition, Action, Study, actionAt, taskAt}
+use Rattle.study.specs.Study.{Condition, Study, actionAt, taskAt}
 use Rattle.plans.specs.Plans.{Usable}
 use Rattle.orders.specs.Orders.{In}
 
@@ -32,10 +32,14 @@ abbrev pub Leads : Study → ℕ → ℕ → List ℕ → ℕ → Type 0
 Leads t v p [] q = p ≡ q
 Leads t v p (i ∷ rest) q = Usable t i × ((varOf t i ≡ v) × ((preOf t i ≡ p) × Leads t v (postOf t i) rest q))
 
--- the walk of a variable leads from its start value to its goal value; traced back from the goal it ends where the start is met, so no action of it sets the start value
-pub record Walk (t : Study) (v : ℕ) (list : List ℕ) : Type 0 where
-  pub leads : Leads t v (startOf t v) list (goalOf t v)
+-- a way of a variable leads from its start value to a value; traced back it ends where the start is met, so no action of it sets the start value
+pub record Way (t : Study) (v q : ℕ) (list : List ℕ) : Type 0 where
+  pub leads : Leads t v (startOf t v) list q
   pub ends-at-start : (i : ℕ) → In i list → postOf t i ≢ startOf t v
+
+-- the walk of a variable is the way to its goal value
+abbrev pub Walk : Study → ℕ → List ℕ → Type 0
+Walk t v list = Way t v (goalOf t v) list
 
 -- an action on a walk, which is that of its own variable
 pub record OnAWalk (t : Study) (i : ℕ) : Type 0 where

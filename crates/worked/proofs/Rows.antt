@@ -8,8 +8,8 @@ use lib.Dec.{T, eqb}
 use lib.ListN.{length}
 use Rattle.answer.specs.declared.Answer.{Answer}
 use Rattle.draw.specs.Draw.{drawAnswer, drawLeaves}
-use Rattle.study.specs.Reading.{Said, says, refused, reading}
-use Rattle.lawful.proofs.Loads.{LawfulIfSaid, loads-lawful}
+use Rattle.study.specs.Reading.{reading}
+use Rattle.lawful.proofs.Loads.{reading-lawful}
 use Rattle.runs.specs.Run.{ran, runAnswer, runLeaves}
 use Rattle.planning.proofs.Determined.{file-plans-determined}
 use Rattle.worked.specs.Table.{Call, draw, plan, run, Allows, Row, answers, straight-plans, Holds}
@@ -41,17 +41,10 @@ outcome (plan file ranks) before = plannedFile (reading file) ranks before
 outcome (run file list) before =
     gives (runAnswer (ran (reading file) (length before) list)) (runLeaves (ran (reading file) (length before) list) before)
 
-said-lawful : (file : List ℕ) → LawfulIfSaid (reading file)
-said-lawful file = go (reading file) refl
-  where
-    go : (said : Said) → reading file ≡ said → LawfulIfSaid said
-    go (says t) e = loads-lawful file t e
-    go (refused number place) e = tt
-
 outcome-allowed : (call : Call) (before : List ℕ) → Allows call before (outcome call before .answer) (outcome call before .bytes)
 unfolding outcome
 outcome-allowed (draw seed count) before = (refl, refl)
-outcome-allowed (plan file ranks) before = planned-file-allowed (reading file) (said-lawful file) ranks before
+outcome-allowed (plan file ranks) before = planned-file-allowed (reading file) (reading-lawful file) ranks before
 outcome-allowed (run file list) before = (refl, refl)
 
 allowed-determined :
@@ -75,4 +68,4 @@ test-holds (answers call before answer after) h =
     record { allowed = allowed; only = λ r bytes a. allowed-determined call before a allowed }
 test-holds (straight-plans file lists) h = λ list.
     let e = so (says-alike says-same-bytes (straightPlansIn (reading file)) lists) h in
-    rw e at (straight-plans-in-file (reading file) (said-lawful file) list)
+    rw e at (straight-plans-in-file (reading file) (reading-lawful file) list)

@@ -8,7 +8,7 @@ use mathlib.Core.Bool.{_&&_}
 use mathlib.Core.Option.{Option, none, some}
 use mathlib.Core.List.{List, [], _∷_, _++_, append-nil, append-assoc}
 use lib.Dec.{eqb}
-use lib.ListN.{length, length-append}
+use lib.ListN.{length}
 use borrow.Author.Tests.{eqb-true, eqb-false, eq-eqb, ne-eqb}
 use Rattle.plain.specs.Choose.{pick}
 use Rattle.plain.proofs.Tests.{picked}
@@ -17,9 +17,10 @@ use Rattle.ranks.proofs.Laws.{length-rising}
 use Rattle.study.specs.Study.{Study}
 use Rattle.lawful.specs.Lawful.{Lawful}
 use Rattle.orders.specs.Orders.{In}
-use Rattle.orders.proofs.Lists.{in-append-left, in-append-right, distinct-within}
-use Rattle.walks.specs.Walks.{varOf, preOf, postOf, startOf, goalOf, Leads, Walk}
-use Rattle.walks.proofs.Leads.{leads-in, Last, leads-last}
+use Rattle.orders.proofs.Lists.{distinct-within}
+use Rattle.walks.specs.Walks.{varOf, preOf, postOf, startOf, goalOf, Leads, Way, Walk}
+use Rattle.walks.proofs.Leads.{leads-in}
+use Rattle.walks.proofs.Ways.{Shorter, way-last}
 use Rattle.walks.proofs.Unique.{walk-distinct}
 use Rattle.worked.proofs.Tests.{says-equal, says-both}
 use Rattle.worked.proofs.Searching.{lowest, Lowest, is-lowest, is-nowhere, lowest-tells, below-in}
@@ -79,41 +80,28 @@ module _ (t : Study) (v : ℕ) where
   -- ---- a walk is found
 
   module _ (lawful : Lawful t) where
-    walk-traced :
-        (n q : ℕ) (front found : List ℕ)
-        → Leads t v (startOf t v) front q → ((i : ℕ) → In i front → postOf t i ≢ startOf t v) → length front < n
-        → traced t v n q found ≡ some (front ++ found)
+    way-traced : (n q : ℕ) (front found : List ℕ) → Way t v q front → length front < n → traced t v n q found ≡ some (front ++ found)
     unfolding traced
-    walk-traced zero q front found leads new h = absurd (omega arith)
-    walk-traced (suc n) q front found leads new h =
-        go (leads-last t v (startOf t v) front q leads) (λ p f g i k m. walk-traced n p f g i k m)
+    way-traced zero q front found way h = absurd (omega arith)
+    way-traced (suc n) q front found way h = go (way-last way) (way-traced n)
       where
-        go : ((front ≡ []) × (startOf t v ≡ q)) ⊎ Last t v (startOf t v) front q
-            → ((p : ℕ) (f g : List ℕ) → Leads t v (startOf t v) f p → ((i : ℕ) → In i f → postOf t i ≢ startOf t v) → length f < n
-            → traced t v n p g ≡ some (f ++ g))
+        go : ((front ≡ []) × (startOf t v ≡ q)) ⊎ Shorter t v q front
+            → ((p : ℕ) (f g : List ℕ) → Way t v p f → length f < n → traced t v n p g ≡ some (f ++ g))
             → pick (eqb q (startOf t v)) (some found) (onward (setterOf t v q) (λ i. traced t v n (preOf t i) (i ∷ found))) ≡ some (front ++ found)
         go (inl (n, e)) on = rw (eq-eqb q (startOf t v) (sym e), n)
-        go (inr l) on = rw (ne-eqb q (startOf t v) away) (back (setter-tells q))
+        go (inr s) on = rw (ne-eqb q (startOf t v) (s .off)) (back (setter-tells q))
           where
-            last-in : In (l .last) front
-            last-in = rw (l .is) (in-append-right (l .last) (l .front) (l .last ∷ []) (inl refl))
-
-            away : q ≢ startOf t v
-            away e = new (l .last) last-in (l .post ∙ e)
-
-            before-last : traced t v n (preOf t (l .last)) (l .last ∷ found) ≡ some (front ++ found)
+            before-last : traced t v n (preOf t (s .last)) (s .last ∷ found) ≡ some (front ++ found)
             before-last =
-                on (preOf t (l .last)) (l .front) (l .last ∷ found) (l .leads)
-                (λ j i. new j (rw (l .is) (in-append-left j (l .front) (l .last ∷ []) i)))
-                (omega (arith, simp length-append at (ap length (l .is))))
-                ∙ ap some (sym (ap (λ (f : List ℕ). f ++ found) (l .is) ∙ append-assoc (l .front) (l .last ∷ []) found))
+                on (preOf t (s .last)) (s .front) (s .last ∷ found) (s .way) (omega (arith, s .long))
+                ∙ ap some (sym (ap (λ (f : List ℕ). f ++ found) (s .is) ∙ append-assoc (s .front) (s .last ∷ []) found))
 
             back :
                 {o : Option ℕ} → Lowest (λ i. (varOf t i ≡ v) × (postOf t i ≡ q)) (length (t .actions)) o
                 → onward o (λ i. traced t v n (preOf t i) (i ∷ found)) ≡ some (front ++ found)
-            back (is-nowhere no-one) = absurd (no-one (l .last) (l .usable) (l .var, l .post))
+            back (is-nowhere no-one) = absurd (no-one (s .last) (s .usable) (s .var, s .post))
             back (is-lowest {x = i} usable (own, post) _) =
-                let e : i ≡ l .last = lawful .post-unique i (l .last) usable (l .usable) (own ∙ sym (l .var)) (post ∙ sym (l .post)) in
+                let e : i ≡ s .last = lawful .post-unique i (s .last) usable (s .usable) (own ∙ sym (s .var)) (post ∙ sym (s .post)) in
                 rw e before-last
 
     walk-short : {w : List ℕ} → Walk t v w → length w ≤ length (t .actions)
@@ -128,7 +116,7 @@ module _ (t : Study) (v : ℕ) where
     walk-found : {w : List ℕ} → Walk t v w → walkOf t v ≡ some w
     unfolding walkOf
     walk-found {w} walk =
-        walk-traced (suc (length (t .actions))) (goalOf t v) w [] (walk .leads) (walk .ends-at-start) (omega (arith, walk-short walk)) ∙ ap some (append-nil w)
+        way-traced (suc (length (t .actions))) (goalOf t v) w [] walk (omega (arith, walk-short walk)) ∙ ap some (append-nil w)
 
 -- ---- the trace tells
 

@@ -4,20 +4,12 @@ use mathlib.Core.Path.{_≡_, sym, ap, _∙_}
 use Prim.Native.Nat.{ℕ, _-_}
 use native.Mathlib.Nat.{sub-self}
 use native.Mathlib.Omega.{arith}
-use denote.Ref.{now}
-use Rattle.records.specs.Records.{recordAt}
-use Rattle.records.specs.declared.Found.{Found}
-use Rattle.records.specs.declared.Found.the-variants.{There, Unknown, Cut, Ended}
-use Rattle.records.proofs.Laws.{Lies, there-lies}
+use Rattle.records.proofs.Laws.{there-lies}
 use Rattle.marrowkite.specs.declared.Record.{Record}
 use Rattle.marrowkite.specs.Told.{told}
 use borrow.Author.Needs.{needs}
 use Rattle.marrowkite.proofs.marrowkite_record_at.Statement.{statement}
 use Rattle.marrowkite.proofs.marrowkite_record_at.Tie as tie
-use Rattle.marrowkite.proofs.marrowkite_record_at.Reads as reads
-use Rattle.marrowkite.proofs.marrowkite_record_at.Lts as lts
-use Rattle.marrowkite.proofs.refused.Reads as refused-reads
-use Rattle.records.proofs.record_at.Reads as record-at-reads
 
 -- a refusal's empty body
 no-length : (number place : ℕ) → _≡_ {A = Record} (record { number = number; kind = 0; start = place; len = 0; next = place }) (record { number = number; kind = 0; start = place; len = place - place; next = place })

@@ -1,20 +1,12 @@
 -- `planner::plan` meets its contract: what is loaded is what the file says, and its tables are given to planning.
 -- Assumes nothing.
-use mathlib.Core.Path.{_≡_, refl, sym, ap, _∙_}
-use Prim.Native.Nat.{ℕ}
+use mathlib.Core.Path.{refl, sym, ap, _∙_}
 use Rattle.loader.proofs.Fresh.{fresh-sized}
 use Rattle.planner.specs.Whole.{notLoaded}
 use Rattle.planner.proofs.Stages.{loaded-known, known-given, not-ranked}
 use borrow.Author.Needs.{needs}
 use Rattle.planner.proofs.plan.Statement.{statement}
 use Rattle.planner.proofs.plan.Tie as tie
-use Rattle.planner.proofs.plan.Reads as reads
-use Rattle.planner.proofs.plan.Lts as lts
-use Rattle.loader.proofs.load.Reads as load-reads
-use Rattle.planner.proofs.loaded.plan_loaded.Reads as plan-loaded-reads
-use Rattle.planner.proofs.loaded.refused.Reads as refused-reads
-use Rattle.planner.proofs.loaded.unranked.Reads as unranked-reads
-use Rattle.ranking.proofs.test.Reads as test-reads
 
 load-requires : tie.Need-load-requires
 load-requires c κs = search needs

@@ -1,6 +1,6 @@
 -- `planner::plan_seeded` meets its contract: what is loaded is what the file says, and its tables and seed are given to planning.
 -- Assumes nothing.
-use mathlib.Core.Path.{_≡_, refl, ap, _∙_}
+use mathlib.Core.Path.{refl, ap, _∙_}
 use Rattle.loader.proofs.Fresh.{fresh-sized}
 use Rattle.planner.specs.Whole.{notLoaded}
 use Rattle.planner.proofs.Drawing.{seeded-plans}
@@ -8,11 +8,6 @@ use Rattle.planner.proofs.Stages.{loaded-known}
 use borrow.Author.Needs.{needs}
 use Rattle.planner.proofs.plan_seeded.Statement.{statement}
 use Rattle.planner.proofs.plan_seeded.Tie as tie
-use Rattle.planner.proofs.plan_seeded.Reads as reads
-use Rattle.planner.proofs.plan_seeded.Lts as lts
-use Rattle.loader.proofs.load.Reads as load-reads
-use Rattle.planner.proofs.loaded.plan_drawn.Reads as plan-drawn-reads
-use Rattle.planner.proofs.loaded.refused.Reads as refused-reads
 
 load-requires : tie.Need-load-requires
 load-requires c κs = search needs

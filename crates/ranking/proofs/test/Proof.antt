@@ -11,8 +11,6 @@ use Rattle.ranking.specs.declared.Tested.{Tested}
 use Rattle.ranking.proofs.Marks.{Marked, none-marked, too-large, repeated, one-more, all-tested}
 use Rattle.ranking.proofs.test.Statement.{statement}
 use Rattle.ranking.proofs.test.Tie as tie
-use Rattle.ranking.proofs.test.Reads as reads
-use Rattle.ranking.proofs.test.Lts as lts
 
 abbrev Inv-loop : tie.InvT-loop
 Inv-loop ranks actions met₀ k₀ met k = Marked ranks actions k met

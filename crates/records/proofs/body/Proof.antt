@@ -1,19 +1,14 @@
 -- `records::body` meets its contract: a record that is there lies inside the file, and one that is not has an empty body.
 -- Assumes nothing.
-use mathlib.Core.Path.{_≡_, sym, ap, _∙_}
-use mathlib.Core.List.{List}
-use Prim.Native.Nat.{ℕ}
+use mathlib.Core.Path.{sym, ap, _∙_}
 use native.Mathlib.Omega.{arith}
 use borrow.Author.Needs.{needs}
 use denote.Ref.{now}
 use Rattle.records.specs.Records.{part, startOf, nextOf}
 use Rattle.records.specs.declared.Found.{Found}
-use Rattle.records.proofs.Laws.{body-length-small, there-lies, Lies, no-body}
+use Rattle.records.proofs.Laws.{there-lies, Lies, no-body}
 use Rattle.records.proofs.body.Statement.{statement}
 use Rattle.records.proofs.body.Tie as tie
-use Rattle.records.proofs.body.Reads as reads
-use Rattle.records.proofs.body.Lts as lts
-use Rattle.records.proofs.record_at.Reads as record-at-reads
 
 -- what the match says of the record: it lies inside the file
 lies :

@@ -8,9 +8,6 @@ use native.Mathlib.Omega.{arith}
 use Rattle.records.proofs.Laws.{body-length-small, record-ended, record-unknown-low, record-unknown-high, record-there, record-cut}
 use Rattle.records.proofs.record_at.Statement.{statement}
 use Rattle.records.proofs.record_at.Tie as tie
-use Rattle.records.proofs.record_at.Reads as reads
-use Rattle.records.proofs.record_at.Lts as lts
-use Rattle.records.proofs.length_of.Reads as length-of-reads
 
 returns : tie.Need-returns
 returns c = sym (record-ended _ _ (c .if1 .taken))

@@ -3,9 +3,6 @@
 use borrow.Author.Needs.{needs}
 use Rattle.loader.proofs.pace.not_there.Statement.{statement}
 use Rattle.loader.proofs.pace.not_there.Tie as tie
-use Rattle.loader.proofs.pace.not_there.Reads as reads
-use Rattle.loader.proofs.pace.not_there.Lts as lts
-use Rattle.loader.proofs.order.may_follow.Reads as may-follow-reads
 
 enum-known-found : tie.Need-enum-known-found
 enum-known-found c = search needs

@@ -11,12 +11,6 @@ use Rattle.study.proofs.Verdicts.{verdict-not-allowed}
 use Rattle.loader.proofs.Arms.{allowed-is, not-there-arm}
 use Rattle.loader.proofs.pace.step.Statement.{statement}
 use Rattle.loader.proofs.pace.step.Tie as tie
-use Rattle.loader.proofs.pace.step.Reads as reads
-use Rattle.loader.proofs.pace.step.Lts as lts
-use Rattle.loader.proofs.order.may_follow.Reads as may-follow-reads
-use Rattle.loader.proofs.pace.not_there.Reads as not-there-reads
-use Rattle.loader.proofs.pace.take.Reads as take-reads
-use Rattle.reader.proofs.record_from.Reads as record-from-reads
 
 abbrev held : tie.Start → Tables
 held s =

@@ -1,7 +1,7 @@
 -- `loader::pace::take` meets its contract: the kind says which arm of `Arms` answers.
 -- Assumes nothing.
 use mathlib.Core.Path.{_≡_, refl}
-use Prim.Native.Nat.{ℕ, _+_, _≤_, _<_}
+use Prim.Native.Nat.{ℕ, _+_, _≤_}
 use native.Mathlib.Omega.{arith}
 use lib.ListN.{length}
 use denote.Ref.{now}
@@ -10,21 +10,12 @@ use mathlib.Core.Bool.{true}
 use lib.Dec.{ltb}
 use Rattle.records.specs.Records.{recordAt, bodyLength, bodyLengths}
 use Rattle.records.specs.declared.Found.the-variants.{There}
-use Rattle.records.proofs.Laws.{Lies, there-lies}
+use Rattle.records.proofs.Laws.{there-lies}
 use Rattle.study.specs.Reading.{mayFollow}
 use Rattle.loader.specs.Tables.{Tables, tables, actionTables}
 use Rattle.loader.proofs.Arms.{body-inside, action-place, condition-action, variable-arm, action-arm, condition-arm, task-arm, seed-arm, end-arm}
 use Rattle.loader.proofs.pace.take.Statement.{statement}
 use Rattle.loader.proofs.pace.take.Tie as tie
-use Rattle.loader.proofs.pace.take.Reads as reads
-use Rattle.loader.proofs.pace.take.Lts as lts
-use Rattle.loader.proofs.entries.on_action.Reads as on-action-reads
-use Rattle.loader.proofs.entries.on_condition.Reads as on-condition-reads
-use Rattle.loader.proofs.entries.on_seed.Reads as on-seed-reads
-use Rattle.loader.proofs.entries.on_task.Reads as on-task-reads
-use Rattle.loader.proofs.entries.on_variable.Reads as on-variable-reads
-use Rattle.loader.proofs.pace.on_end.Reads as on-end-reads
-use Rattle.loader.proofs.pace.seed_of.Reads as seed-of-reads
 
 abbrev held : tie.Start → Tables
 held s =

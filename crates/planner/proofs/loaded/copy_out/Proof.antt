@@ -9,8 +9,6 @@ use borrow.Author.Needs.{needs}
 use Rattle.plain.proofs.Copies.{copied-one-more}
 use Rattle.planner.proofs.loaded.copy_out.Statement.{statement}
 use Rattle.planner.proofs.loaded.copy_out.Tie as tie
-use Rattle.planner.proofs.loaded.copy_out.Reads as reads
-use Rattle.planner.proofs.loaded.copy_out.Lts as lts
 
 abbrev Inv-loop : tie.InvT-loop
 Inv-loop out n plan₀ k₀ plan k = (k ≤ n) × ((plan ≡ take k out ++ drop k plan₀) × (length plan ≡ length plan₀))

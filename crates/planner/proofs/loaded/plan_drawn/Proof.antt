@@ -1,8 +1,6 @@
 -- `planner::loaded::plan_drawn` meets its contract: the drawn list stands in the front of the ranks, and planning goes on with it.
 -- Assumes nothing.
-use mathlib.Core.Path.{_≡_, sym, ap, _∙_}
-use mathlib.Core.List.{List}
-use Prim.Native.Nat.{ℕ}
+use mathlib.Core.Path.{sym, ap, _∙_}
 use lib.ListN.{length}
 use Rattle.draw.proofs.Drawn.{drawn-is-rank-list}
 use Rattle.planner.proofs.Drawing.{drawn-fine, drawn-in-front}
@@ -10,10 +8,6 @@ use Rattle.planner.proofs.Stages.{known-given}
 use borrow.Author.Needs.{needs}
 use Rattle.planner.proofs.loaded.plan_drawn.Statement.{statement}
 use Rattle.planner.proofs.loaded.plan_drawn.Tie as tie
-use Rattle.planner.proofs.loaded.plan_drawn.Reads as reads
-use Rattle.planner.proofs.loaded.plan_drawn.Lts as lts
-use Rattle.draw.proofs.draw.Reads as draw-reads
-use Rattle.planner.proofs.loaded.plan_loaded.Reads as plan-loaded-reads
 
 slice-aggregate-draw : tie.Need-slice-aggregate-draw
 slice-aggregate-draw c = search needs

@@ -1,17 +1,12 @@
 -- `planner::loaded::plan_loaded` meets its contract: a variable with no walk is refusal 10, else planning goes on.
 -- Assumes nothing.
-use mathlib.Core.Path.{_≡_, refl}
-use Prim.Native.Nat.{ℕ, _+_, _*_}
+use mathlib.Core.Path.{refl}
+use Prim.Native.Nat.{_+_, _*_}
 use Rattle.planning.specs.Planning.{no-walk}
 use Rattle.planner.proofs.Stages.{all-zeros, given-moves, given-starts, given-goals, given-ranked, given-walking}
 use borrow.Author.Needs.{needs}
 use Rattle.planner.proofs.loaded.plan_loaded.Statement.{statement}
 use Rattle.planner.proofs.loaded.plan_loaded.Tie as tie
-use Rattle.planner.proofs.loaded.plan_loaded.Reads as reads
-use Rattle.planner.proofs.loaded.plan_loaded.Lts as lts
-use Rattle.planner.proofs.loaded.plan_walked.Reads as plan-walked-reads
-use Rattle.planner.proofs.loaded.refusal.Reads as refusal-reads
-use Rattle.planner.proofs.tracing.walk_all.Reads as walk-all-reads
 
 walk-all-requires : tie.Need-walk-all-requires
 walk-all-requires c κs =

@@ -1,17 +1,10 @@
 -- `planner::loaded::plan_met` meets its contract: what was taken greedily is all, and the first plan, or fewer, and there is a ring.
 -- Assumes nothing.
-use mathlib.Core.Path.{_≡_, _∙_}
-use Prim.Native.Nat.{ℕ}
 use native.Mathlib.Omega.{arith}
 use Rattle.planner.proofs.Outcomes.{fewer-is-ring, too-long, fits, few-in-all}
 use borrow.Author.Needs.{needs}
 use Rattle.planner.proofs.loaded.plan_met.Statement.{statement}
 use Rattle.planner.proofs.loaded.plan_met.Tie as tie
-use Rattle.planner.proofs.loaded.plan_met.Reads as reads
-use Rattle.planner.proofs.loaded.plan_met.Lts as lts
-use Rattle.planner.proofs.loaded.copy_out.Reads as copy-out-reads
-use Rattle.planner.proofs.loaded.refusal.Reads as refusal-reads
-use Rattle.planner.proofs.taking.take_all.Reads as take-all-reads
 
 take-all-requires : tie.Need-take-all-requires
 take-all-requires c κs = search needs

@@ -1,24 +1,12 @@
 -- `planner::loaded::plan_walked` meets its contract: a condition off its walk is refusal 11, else planning goes on.
 -- Assumes nothing.
-use mathlib.Core.Path.{_≡_, refl}
-use mathlib.Core.List.{List}
-use Prim.Native.Nat.{ℕ}
-use lib.ListN.{length}
-use Rattle.study.specs.Study.{Study}
+use mathlib.Core.Path.{refl}
 use Rattle.planning.specs.Planning.{off-walk}
-use Rattle.planner.specs.Rows.{Rowed}
-use Rattle.planner.specs.Whole.{Walking}
 use Rattle.planner.proofs.Outcomes.{rowed-walks}
 use Rattle.planner.proofs.Stages.{all-zeros, walking-ranked, walking-prepared, walking-rowed}
 use borrow.Author.Needs.{needs}
 use Rattle.planner.proofs.loaded.plan_walked.Statement.{statement}
 use Rattle.planner.proofs.loaded.plan_walked.Tie as tie
-use Rattle.planner.proofs.loaded.plan_walked.Reads as reads
-use Rattle.planner.proofs.loaded.plan_walked.Lts as lts
-use Rattle.planner.proofs.loaded.plan_met.Reads as plan-met-reads
-use Rattle.planner.proofs.loaded.refusal.Reads as refusal-reads
-use Rattle.planner.proofs.tracing.wide.Reads as wide-reads
-use Rattle.planner.proofs.wanting.want_all.Reads as want-all-reads
 
 want-all-requires : tie.Need-want-all-requires
 want-all-requires c κs =

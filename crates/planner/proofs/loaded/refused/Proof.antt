@@ -1,13 +1,8 @@
 -- `planner::loaded::refused` meets its contract: the case says which numbers are answered.
 -- Assumes nothing.
-use mathlib.Core.Path.{_≡_, _∙_, sym, ap}
-use Rattle.planner.specs.Whole.{notLoaded}
 use borrow.Author.Needs.{needs}
 use Rattle.planner.proofs.loaded.refused.Statement.{statement}
 use Rattle.planner.proofs.loaded.refused.Tie as tie
-use Rattle.planner.proofs.loaded.refused.Reads as reads
-use Rattle.planner.proofs.loaded.refused.Lts as lts
-use Rattle.planner.proofs.loaded.refusal.Reads as refusal-reads
 
 enum-told : tie.Need-enum-told
 enum-told c = search needs

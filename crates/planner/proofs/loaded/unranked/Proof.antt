@@ -3,9 +3,6 @@
 use borrow.Author.Needs.{needs}
 use Rattle.planner.proofs.loaded.unranked.Statement.{statement}
 use Rattle.planner.proofs.loaded.unranked.Tie as tie
-use Rattle.planner.proofs.loaded.unranked.Reads as reads
-use Rattle.planner.proofs.loaded.unranked.Lts as lts
-use Rattle.planner.proofs.loaded.refusal.Reads as refusal-reads
 
 enum-told : tie.Need-enum-told
 enum-told c = search needs

@@ -3,15 +3,13 @@
 use mathlib.Core.Path.{refl}
 use native.Mathlib.Omega.{arith}
 use borrow.Author.Needs.{needs}
-use Prim.Native.Nat.{_-_, _*_, _+_, _<_}
+use Prim.Native.Nat.{_<_}
 use native.Mathlib.Nat.{mod-lt}
 use Rattle.planner.specs.Keys.{shut}
-use Rattle.planner.proofs.Keys.{slack, slack-falls}
+use Rattle.planner.proofs.Keys.{slack}
 use Rattle.planner.proofs.Waiting.{Picking, picking-starts, picks-none, picked-narrow, picked-steps, picked-small, picked-there, picked-readable, picked-held, picks-ready, picks-again, picked-falls}
 use Rattle.planner.proofs.taking.best.Statement.{statement}
 use Rattle.planner.proofs.taking.best.Tie as tie
-use Rattle.planner.proofs.taking.best.Reads as reads
-use Rattle.planner.proofs.taking.best.Lts as lts
 
 abbrev Inv-loop : tie.InvT-loop
 Inv-loop file places manys steps state held₀ keys₀ waits₀ awaited₀ held keys waits awaited =

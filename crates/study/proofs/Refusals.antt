@@ -1,7 +1,7 @@
 -- A file that is refused is refused with a number from 1 on.
 -- Assumes nothing.
 use mathlib.Core.List.{List}
-use Prim.Native.Nat.{ℕ, zero, suc, _+_, _≤_}
+use Prim.Native.Nat.{ℕ, zero, suc, _≤_}
 use native.Mathlib.Omega.{arith}
 use lib.Dec.{ltb}
 use lib.ListN.{length}
@@ -9,16 +9,16 @@ use Rattle.plain.proofs.Tests.{picked}
 use Rattle.records.specs.Records.{recordAt}
 use Rattle.records.specs.declared.Found.{Found}
 use Rattle.records.specs.declared.Found.the-variants.{There, Unknown, Cut, Ended}
-use Rattle.study.specs.Reading.{Said, says, refused, Record, variable, action, condition, task, seed, end, recordFrom, Draft, blank, allowed, fault}
-use Rattle.study.specs.Reading.{Verdict, settled, onward, taken, unless, judged, verdictAt, follow, readOn, reading}
+use Rattle.study.specs.Reading.{Said, says, refused, Record, variable, action, condition, task, seed, end, recordFrom, Draft, allowed, fault}
+use Rattle.study.specs.Reading.{Verdict, taken, unless, judged, verdictAt, reading}
+use Rattle.study.proofs.Readings.{VerdictHas, reading-has}
 
-abbrev pub Numbered : Said → Type 0
-Numbered (says t) = Unit {0}
-Numbered (refused number place) = 1 ≤ number
+abbrev pub NumberedIfRefused : Said → Type 0
+NumberedIfRefused (says t) = Unit {0}
+NumberedIfRefused (refused number place) = 1 ≤ number
 
 abbrev NumberedVerdict : Verdict → Type 0
-NumberedVerdict (settled s) = Numbered s
-NumberedVerdict (onward at d) = Unit {0}
+NumberedVerdict = VerdictHas NumberedIfRefused (λ d. Unit {0})
 
 taken-numbered : (file : List ℕ) (d : Draft) (kind next : ℕ) (r : Record) → NumberedVerdict (taken file d kind next r)
 unfolding taken
@@ -27,7 +27,7 @@ taken-numbered file d kind next (action v p q) = tt
 taken-numbered file d kind next (condition v q) = tt
 taken-numbered file d kind next (task v p q) = tt
 taken-numbered file d kind next (seed n) = tt
-taken-numbered file d kind next end = picked Numbered (ltb next (length file)) (λ _. omega arith) (λ _. tt)
+taken-numbered file d kind next end = picked NumberedIfRefused (ltb next (length file)) (λ _. omega arith) (λ _. tt)
 
 unless-numbered : (n at : ℕ) (v : Verdict) → NumberedVerdict v → NumberedVerdict (unless n at v)
 unfolding unless
@@ -48,15 +48,5 @@ verdict-numbered : (file : List ℕ) (at : ℕ) (d : Draft) → NumberedVerdict 
 unfolding verdictAt
 verdict-numbered file at d = judged-numbered file at d (recordAt file at)
 
-follow-numbered : (v : Verdict) (read : ℕ → Draft → Said) → NumberedVerdict v → ((at : ℕ) (d : Draft) → Numbered (read at d)) → Numbered (follow v read)
-follow-numbered (settled s) read h f = h
-follow-numbered (onward at d) read h f = f at d
-
-read-on-numbered : (n : ℕ) (file : List ℕ) (at : ℕ) (d : Draft) → Numbered (readOn n file at d)
-unfolding readOn
-read-on-numbered zero file at d = omega arith
-read-on-numbered (suc n) file at d = follow-numbered (verdictAt file at d) (readOn n file) (verdict-numbered file at d) (read-on-numbered n file)
-
-pub reading-numbered : (file : List ℕ) → Numbered (reading file)
-unfolding reading
-reading-numbered file = read-on-numbered (length file + 1) file 0 blank
+pub refusals-numbered : (file : List ℕ) → NumberedIfRefused (reading file)
+refusals-numbered file = reading-has NumberedIfRefused (λ d. Unit {0}) file (omega arith) (λ at d _. verdict-numbered file at d) tt
