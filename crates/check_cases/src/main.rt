@@ -1,9 +1,9 @@
 // Checks the porter file whole, cut, damaged and with a record more, and files at document 01's limits. Each call's three numbers follow a
 // label.
-mod build;
+mod checked;
 mod limits;
 mod porter;
-mod show;
+mod setting;
 
 fn main() {
     porter::case_16();

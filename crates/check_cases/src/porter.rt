@@ -1,39 +1,31 @@
 // The porter file: whole, cut, damaged, and with a record more.
-use crate::build;
-use crate::show;
+use crate::checked;
+use casework::build;
+use casework::files::PORTER;
+use casework::show;
 ghost use Prim.Native.Nat.{_<_, _≤_};
-
-const PORTER: [u8; 56] = *b"\
-    \x01\x02\x01\x03\x01\x02\
-    \x02\x00\x00\x01\x02\x01\x00\x01\
-    \x02\x01\x01\x02\x03\x00\x01\x03\x02\x01\
-    \x02\x02\x00\x01\x03\x00\x01\x03\x01\x01\
-    \x02\x00\x01\x00\
-    \x04\x00\x00\x01\x04\x01\x00\x02\x04\x02\x00\x01\
-    \x05\x00\x00\x00\x01\x06";
 
 // What each byte is set to in its turn.
 const TELLING: [u8; 12] = [0, 1, 2, 3, 4, 5, 6, 7, 16, 17, 32, 255];
 
 pub(crate) fn case_16() {
     let file = PORTER;
-    show::line(b"porter:", &file);
+    checked::line(b"porter:", &file);
     with_seed(0);
-    show::line_of_first(b"cut to 55:", &file, 55);
-    show::line_of_first(b"cut to 54:", &file, 54);
+    checked::line_of_first(b"cut to 55:", &file, 55);
+    checked::line_of_first(b"cut to 54:", &file, 54);
     let mut longer = [0u8; 57];
     let n = build::put_all(&mut longer, 0, &file);
     let n = build::put(&mut longer, n, 0);
-    show::line_of_first(b"one byte more:", &longer, n);
+    checked::line_of_first(b"one byte more:", &longer, n);
 }
 
 pub(crate) fn each_cut() {
     let file = PORTER;
     let mut n = 0usize;
     while n < 57 {
-        show::text(b"cut to");
-        show::number(n as u64);
-        show::line_of_first(b":", &file, n);
+        show::text_and_number(b"cut to", n as u64);
+        checked::line_of_first(b":", &file, n);
         n += 1;
     }
 }
@@ -41,8 +33,7 @@ pub(crate) fn each_cut() {
 pub(crate) fn each_damage() {
     let mut at = 0usize;
     while at < 56 {
-        show::text(b"byte");
-        show::number(at as u64);
+        show::text_and_number(b"byte", at as u64);
         damaged(at);
         show::end_line();
         at += 1;
@@ -58,7 +49,7 @@ fn damaged(at: usize)
     while i < 12 {
         file[at] = TELLING[i];
         show::text(b" |");
-        show::answer(&file);
+        checked::answer(&file);
         i += 1;
     }
 }
@@ -66,8 +57,7 @@ fn damaged(at: usize)
 pub(crate) fn each_last_byte() {
     let mut at = 0usize;
     while at < 56 {
-        show::text(b"last byte");
-        show::number(at as u64);
+        show::text_and_number(b"last byte", at as u64);
         cut_behind(at);
         show::end_line();
         at += 1;
@@ -83,7 +73,7 @@ fn cut_behind(at: usize)
     while byte < 8 {
         file[at] = byte;
         show::text(b" |");
-        show::answer_of_first(&file, at + 1);
+        checked::answer_of_first(&file, at + 1);
         byte += 1;
     }
 }
@@ -91,8 +81,7 @@ fn cut_behind(at: usize)
 pub(crate) fn each_insertion() {
     let mut at = 0usize;
     while at < 57 {
-        show::text(b"a record more at");
-        show::number(at as u64);
+        show::text_and_number(b"a record more at", at as u64);
         with_record(at, b"\x01\x02");
         with_record(at, b"\x02\x01\x02\x00");
         with_record(at, b"\x03\x02\x00");
@@ -113,7 +102,7 @@ fn with_record(at: usize, record: &[u8])
     let n = build::put_all(&mut file, n, record);
     let n = build::put_all(&mut file, n, &porter[at..]);
     show::text(b" |");
-    show::answer_of_first(&file, n);
+    checked::answer_of_first(&file, n);
 }
 
 // Two bytes set, so that a record has one fault or two.
@@ -166,13 +155,11 @@ fn with_bytes(at: usize, byte: u8, and_at: usize, and_byte: u8) {
     let mut file = PORTER;
     build::put(&mut file, at, byte);
     build::put(&mut file, and_at, and_byte);
-    show::text(b"bytes");
-    show::number(at as u64);
+    show::text_and_number(b"bytes", at as u64);
     show::number(and_at as u64);
-    show::text(b" set to");
-    show::number(byte as u64);
+    show::text_and_number(b" set to", byte as u64);
     show::number(and_byte as u64);
-    show::line(b":", &file);
+    checked::line(b":", &file);
 }
 
 fn with_seed(seed: u64) {
@@ -181,7 +168,6 @@ fn with_seed(seed: u64) {
     file[52] = (seed / 65536 % 256) as u8;
     file[53] = (seed / 256 % 256) as u8;
     file[54] = (seed % 256) as u8;
-    show::text(b"seed of");
-    show::number(seed);
-    show::line(b":", &file);
+    show::text_and_number(b"seed of", seed);
+    checked::line(b":", &file);
 }

@@ -1,6 +1,6 @@
 // Runs the generator's published check and document 01's cases of the draw, each on a line. Every byte of a lent buffer is shown, and a byte
 // that the draw leaves alone is 170.
-use libc::STDOUT_FILENO;
+use casework::show;
 ghost use mathlib.Core.Path.{_≡_};
 ghost use Rattle.draw.specs.Draw.{numberAfter};
 
@@ -22,13 +22,10 @@ fn main() {
 }
 
 fn show_number_after(steps: u64, seed: u32) {
-    io::write_all(STDOUT_FILENO, b"number");
-    show(steps);
-    io::write_all(STDOUT_FILENO, b" from");
-    show(seed as u64);
-    io::write_all(STDOUT_FILENO, b" is");
-    show(number_after(steps, seed) as u64);
-    io::write_all(STDOUT_FILENO, b"\n");
+    show::text_and_number(b"number", steps);
+    show::text_and_number(b" from", seed as u64);
+    show::text_and_number(b" is", number_after(steps, seed) as u64);
+    show::end_line();
 }
 
 fn number_after(steps: u64, seed: u32) -> u32
@@ -54,28 +51,8 @@ fn draw_in_258(seed: u64, count: u64) {
 }
 
 fn show_draw(seed: u64, count: u64, buffer: &mut [u8]) {
-    io::write_all(STDOUT_FILENO, b"draw");
-    show(seed);
-    show(count);
+    show::text_and_number(b"draw", seed);
+    show::number(count);
     let answer = draw::draw(seed, count, buffer);
-    io::write_all(STDOUT_FILENO, b" answers");
-    show(answer.number);
-    show(answer.first);
-    show(answer.second);
-    io::write_all(STDOUT_FILENO, b" leaves");
-    show_bytes(buffer);
-    io::write_all(STDOUT_FILENO, b"\n");
-}
-
-fn show(number: u64) {
-    io::write_all(STDOUT_FILENO, b" ");
-    io::print_decimal(STDOUT_FILENO, number);
-}
-
-fn show_bytes(bytes: &[u8]) {
-    let mut i = 0;
-    while i < bytes.len() {
-        show(bytes[i] as u64);
-        i += 1;
-    }
+    show::end(answer, buffer);
 }

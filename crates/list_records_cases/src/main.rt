@@ -1,18 +1,10 @@
 // Lists the records of some files, each found by the reader behind the one before it. A line has the record's place, its kind
 // and the bytes of its body. The last line of a file says how its reading ended: at the end record, or by a refusal.
-use libc::STDOUT_FILENO;
+use casework::files::PORTER;
+use casework::show;
 use records::Found;
 
 const END: u8 = 6;
-
-const PORTER: [u8; 56] = *b"\
-    \x01\x02\x01\x03\x01\x02\
-    \x02\x00\x00\x01\x02\x01\x00\x01\
-    \x02\x01\x01\x02\x03\x00\x01\x03\x02\x01\
-    \x02\x02\x00\x01\x03\x00\x01\x03\x01\x01\
-    \x02\x00\x01\x00\
-    \x04\x00\x00\x01\x04\x01\x00\x02\x04\x02\x00\x01\
-    \x05\x00\x00\x00\x01\x06";
 
 // Two records, then a byte that is no kind.
 const ODD: [u8; 7] = *b"\x01\x10\x03\x02\x01\x07\x06";
@@ -51,27 +43,16 @@ fn list(name: &[u8], file: &[u8]) {
 }
 
 fn show_record(name: &[u8], at: usize, kind: u8, body: &[u8]) {
-    io::write_all(STDOUT_FILENO, name);
-    io::write_all(STDOUT_FILENO, b": at");
-    show(at as u64);
-    io::write_all(STDOUT_FILENO, b" kind");
-    show(kind as u64);
-    io::write_all(STDOUT_FILENO, b" body");
-    show_bytes(body);
-    io::write_all(STDOUT_FILENO, b"\n");
-}
-
-fn show_bytes(bytes: &[u8]) {
-    let mut i = 0;
-    while i < bytes.len() {
-        show(wide(bytes[i]));
-        i += 1;
-    }
+    show::text(name);
+    show::text_and_number(b": at", at as u64);
+    show::text_and_number(b" kind", kind as u64);
+    show::text_and_bytes(b" body", body);
+    show::end_line();
 }
 
 fn show_end(name: &[u8]) {
-    io::write_all(STDOUT_FILENO, name);
-    io::write_all(STDOUT_FILENO, b": end\n");
+    show::text(name);
+    show::text(b": end\n");
 }
 
 fn show_refusal(name: &[u8], found: Found) {
@@ -88,18 +69,8 @@ fn show_refusal(name: &[u8], found: Found) {
 }
 
 fn show_refused(name: &[u8], number: u64, place: usize) {
-    io::write_all(STDOUT_FILENO, name);
-    io::write_all(STDOUT_FILENO, b": refused");
-    show(number);
-    show(place as u64);
-    io::write_all(STDOUT_FILENO, b"\n");
-}
-
-fn show(number: u64) {
-    io::write_all(STDOUT_FILENO, b" ");
-    io::print_decimal(STDOUT_FILENO, number);
-}
-
-fn wide(byte: u8) -> u64 {
-    byte as u64
+    show::text(name);
+    show::text_and_number(b": refused", number);
+    show::number(place as u64);
+    show::end_line();
 }

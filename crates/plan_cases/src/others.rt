@@ -1,6 +1,7 @@
 // Files other than the porter's: document 01's cases 13 to 15, rings, and files with no action or with a fault.
 use crate::porter;
 use crate::show;
+use casework::files::HORSE;
 
 pub(crate) fn cases() {
     case_13();
@@ -82,16 +83,3 @@ pub(crate) fn faults() {
         b"\x01\x02\x04\x00\x00\x00\x05\x00\x00\x00\x01\x06\x00",
     );
 }
-
-// Table 1 of source 004, with its start and goal.
-pub(crate) const HORSE: [u8; 64] = *b"\
-    \x01\x03\x01\x02\x01\x03\
-    \x02\x00\x01\x00\
-    \x02\x00\x00\x01\x03\x01\x00\
-    \x02\x00\x01\x02\
-    \x02\x01\x01\x00\
-    \x02\x01\x00\x01\x03\x00\x00\
-    \x02\x02\x00\x01\x03\x01\x01\
-    \x02\x02\x01\x02\x03\x01\x01\
-    \x04\x00\x00\x02\x04\x01\x00\x00\x04\x02\x00\x02\
-    \x05\x00\x00\x00\x01\x06";

@@ -1,15 +1,7 @@
 // The porter file: document 01's cases 3 to 11, and the file with other ranks, other seeds and a fault.
 use crate::show;
+use casework::files::PORTER;
 ghost use Prim.Native.Nat.{_<_};
-
-pub(crate) const PORTER: [u8; 56] = *b"\
-    \x01\x02\x01\x03\x01\x02\
-    \x02\x00\x00\x01\x02\x01\x00\x01\
-    \x02\x01\x01\x02\x03\x00\x01\x03\x02\x01\
-    \x02\x02\x00\x01\x03\x00\x01\x03\x01\x01\
-    \x02\x00\x01\x00\
-    \x04\x00\x00\x01\x04\x01\x00\x02\x04\x02\x00\x01\
-    \x05\x00\x00\x00\x01\x06";
 
 pub(crate) fn cases() {
     let file = PORTER;

@@ -1,8 +1,8 @@
 // Several calls in a row with one buffer: nothing is kept between them but the buffer's bytes.
-use crate::others::HORSE;
 use crate::porter;
-use crate::porter::PORTER;
 use crate::show;
+use casework::files::HORSE;
+use casework::files::PORTER;
 
 pub(crate) fn in_one_buffer() {
     let mut buffer = [170u8; 8];

@@ -1,6 +1,8 @@
 // Calls the planner and shows what it answers, on a line.
-use answer::Answer;
-use libc::STDOUT_FILENO;
+use casework::show::begin;
+use casework::show::end;
+use casework::show::text;
+use casework::show::text_and_bytes;
 ghost use Prim.Native.Nat.{_≤_};
 ghost use lib.ListN.{length};
 
@@ -10,8 +12,7 @@ pub(crate) fn plan(name: &[u8], file: &[u8], ranks: &[u8], buffer: &mut [u8], ro
 {
     let answer = planner::plan(file, ranks, &mut buffer[..room]);
     begin(name, room);
-    text(b" ranks");
-    bytes(ranks);
+    text_and_bytes(b" ranks", ranks);
     end(answer, buffer);
 }
 
@@ -38,37 +39,4 @@ pub(crate) fn seeded_in_12(name: &[u8], file: &[u8], room: usize)
 {
     let mut buffer = [170u8; 12];
     seeded(name, file, &mut buffer, room);
-}
-
-fn begin(name: &[u8], room: usize) {
-    text(name);
-    text(b": room");
-    number(room as u64);
-}
-
-fn end(answer: Answer, buffer: &[u8]) {
-    text(b" answers");
-    number(answer.number);
-    number(answer.first);
-    number(answer.second);
-    text(b" leaves");
-    bytes(buffer);
-    text(b"\n");
-}
-
-fn text(words: &[u8]) {
-    io::write_all(STDOUT_FILENO, words);
-}
-
-fn number(n: u64) {
-    text(b" ");
-    io::print_decimal(STDOUT_FILENO, n);
-}
-
-fn bytes(all: &[u8]) {
-    let mut i = 0;
-    while i < all.len() {
-        number(all[i] as u64);
-        i += 1;
-    }
 }

@@ -1,16 +1,8 @@
 // Reads the record at every place of some files, past their ends too. Each line has the place, the answer number, the kind, where the body starts,
 // its length and the place after it, and then the body's bytes.
-use libc::STDOUT_FILENO;
+use casework::files::PORTER;
+use casework::show;
 use records::Found;
-
-const PORTER: [u8; 56] = *b"\
-    \x01\x02\x01\x03\x01\x02\
-    \x02\x00\x00\x01\x02\x01\x00\x01\
-    \x02\x01\x01\x02\x03\x00\x01\x03\x02\x01\
-    \x02\x02\x00\x01\x03\x00\x01\x03\x01\x01\
-    \x02\x00\x01\x00\
-    \x04\x00\x00\x01\x04\x01\x00\x02\x04\x02\x00\x01\
-    \x05\x00\x00\x00\x01\x06";
 
 // Bytes that are no kind among others; behind them, records that end with the file or are cut by its end.
 const ODD: [u8; 24] =
@@ -35,10 +27,9 @@ fn each_place(name: &[u8], file: &[u8]) {
 }
 
 fn show_record(name: &[u8], file: &[u8], at: usize) {
-    io::write_all(STDOUT_FILENO, name);
-    io::write_all(STDOUT_FILENO, b" at");
-    show(at as u64);
-    io::write_all(STDOUT_FILENO, b":");
+    show::text(name);
+    show::text_and_number(b" at", at as u64);
+    show::text(b":");
     let body = records::body(file, at);
     let found = records::record_at(file, at);
     match found {
@@ -47,32 +38,14 @@ fn show_record(name: &[u8], file: &[u8], at: usize) {
         Found::Cut { kind: _, place } => show_found(1, 0, place, body.len(), place),
         Found::Ended { place } => show_found(1, 0, place, body.len(), place),
     }
-    io::write_all(STDOUT_FILENO, b" body");
-    show_bytes(body);
-    io::write_all(STDOUT_FILENO, b"\n");
+    show::text_and_bytes(b" body", body);
+    show::end_line();
 }
 
 fn show_found(number: u64, kind: u8, start: usize, length: usize, next: usize) {
-    show(number);
-    show(kind as u64);
-    show(start as u64);
-    show(length as u64);
-    show(next as u64);
-}
-
-fn show_bytes(bytes: &[u8]) {
-    let mut i = 0;
-    while i < bytes.len() {
-        show(wide(bytes[i]));
-        i += 1;
-    }
-}
-
-fn show(number: u64) {
-    io::write_all(STDOUT_FILENO, b" ");
-    io::print_decimal(STDOUT_FILENO, number);
-}
-
-fn wide(byte: u8) -> u64 {
-    byte as u64
+    show::number(number);
+    show::number(kind as u64);
+    show::number(start as u64);
+    show::number(length as u64);
+    show::number(next as u64);
 }

@@ -18,61 +18,22 @@ slice-aggregate-run c =
 run-requires : tie.Need-run-requires
 run-requires c κs = search needs
 
-write-all-requires : tie.Need-write-all-requires
-write-all-requires c κs = search needs
+begin-requires : tie.Need-begin-requires
+begin-requires c κs = search needs
 
-slice-aggregate-write-all : tie.Need-slice-aggregate-write-all
-slice-aggregate-write-all c = search needs
+slice-aggregate-text-and-bytes : tie.Need-slice-aggregate-text-and-bytes
+slice-aggregate-text-and-bytes c = search needs
 
-write-all-requires-2 : tie.Need-write-all-requires-2
-write-all-requires-2 c κs = search needs
+text-and-bytes-requires : tie.Need-text-and-bytes-requires
+text-and-bytes-requires c κs = search needs
 
-show-requires : tie.Need-show-requires
-show-requires c κs = search needs
-
-slice-aggregate-write-all-2 : tie.Need-slice-aggregate-write-all-2
-slice-aggregate-write-all-2 c = search needs
-
-write-all-requires-3 : tie.Need-write-all-requires-3
-write-all-requires-3 c κs = search needs
-
-show-bytes-requires : tie.Need-show-bytes-requires
-show-bytes-requires c κs = search needs
-
-slice-aggregate-write-all-3 : tie.Need-slice-aggregate-write-all-3
-slice-aggregate-write-all-3 c = search needs
-
-write-all-requires-4 : tie.Need-write-all-requires-4
-write-all-requires-4 c κs = search needs
-
-show-requires-2 : tie.Need-show-requires-2
-show-requires-2 c κs = search needs
-
-show-requires-3 : tie.Need-show-requires-3
-show-requires-3 c κs = search needs
-
-show-requires-4 : tie.Need-show-requires-4
-show-requires-4 c κs = search needs
-
-slice-aggregate-write-all-4 : tie.Need-slice-aggregate-write-all-4
-slice-aggregate-write-all-4 c = search needs
-
-write-all-requires-5 : tie.Need-write-all-requires-5
-write-all-requires-5 c κs = search needs
-
-slice-aggregate-show-bytes : tie.Need-slice-aggregate-show-bytes
-slice-aggregate-show-bytes c =
-    let r = c .before .before .before .before .before .before .before .before .before .before .before .before .before .before .before .before in
+slice-aggregate-end : tie.Need-slice-aggregate-end
+slice-aggregate-end c =
+    let r = c .before .before .before .before .before in
     sym (length-front (replicate 20 170) (r .run .last .1 .1 .0) (r .before .before .before .before .before .args .room) (r .run .kept .1 .1 .0))
 
-show-bytes-requires-2 : tie.Need-show-bytes-requires-2
-show-bytes-requires-2 c κs = search needs
-
-slice-aggregate-write-all-5 : tie.Need-slice-aggregate-write-all-5
-slice-aggregate-write-all-5 c = search needs
-
-write-all-requires-6 : tie.Need-write-all-requires-6
-write-all-requires-6 c κs = search needs
+end-requires : tie.Need-end-requires
+end-requires c κs = search needs
 
 returns : tie.Need-returns
 returns c = search needs
@@ -84,22 +45,9 @@ show-run-spec =
     array-borrow-prefix-buffer
     slice-aggregate-run
     run-requires
-    write-all-requires
-    slice-aggregate-write-all
-    write-all-requires-2
-    show-requires
-    slice-aggregate-write-all-2
-    write-all-requires-3
-    show-bytes-requires
-    slice-aggregate-write-all-3
-    write-all-requires-4
-    show-requires-2
-    show-requires-3
-    show-requires-4
-    slice-aggregate-write-all-4
-    write-all-requires-5
-    slice-aggregate-show-bytes
-    show-bytes-requires-2
-    slice-aggregate-write-all-5
-    write-all-requires-6
+    begin-requires
+    slice-aggregate-text-and-bytes
+    text-and-bytes-requires
+    slice-aggregate-end
+    end-requires
     returns)

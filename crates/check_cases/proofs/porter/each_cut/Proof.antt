@@ -14,14 +14,11 @@ abbrev μ-loop : tie.MeasureT-loop
 loop-holds : tie.Need-loop-holds Inv-loop μ-loop
 loop-holds c = search needs
 
-slice-aggregate-text : tie.Need-slice-aggregate-text Inv-loop μ-loop
-slice-aggregate-text c = search needs
+slice-aggregate-text-and-number : tie.Need-slice-aggregate-text-and-number Inv-loop μ-loop
+slice-aggregate-text-and-number c = search needs
 
-text-requires : tie.Need-text-requires Inv-loop μ-loop
-text-requires c κs = search needs
-
-number-requires : tie.Need-number-requires Inv-loop μ-loop
-number-requires c κs = search needs
+text-and-number-requires : tie.Need-text-and-number-requires Inv-loop μ-loop
+text-and-number-requires c κs = search needs
 
 slice-aggregate-line-of-first : tie.Need-slice-aggregate-line-of-first Inv-loop μ-loop
 slice-aggregate-line-of-first c = search needs
@@ -51,9 +48,8 @@ each-cut-spec =
     Inv-loop
     μ-loop
     loop-holds
-    slice-aggregate-text
-    text-requires
-    number-requires
+    slice-aggregate-text-and-number
+    text-and-number-requires
     slice-aggregate-line-of-first
     slice-aggregate-line-of-first-2
     line-of-first-requires

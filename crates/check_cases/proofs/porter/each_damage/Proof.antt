@@ -14,14 +14,11 @@ abbrev μ-loop : tie.MeasureT-loop
 loop-holds : tie.Need-loop-holds Inv-loop μ-loop
 loop-holds c = search needs
 
-slice-aggregate-text : tie.Need-slice-aggregate-text Inv-loop μ-loop
-slice-aggregate-text c = search needs
+slice-aggregate-text-and-number : tie.Need-slice-aggregate-text-and-number Inv-loop μ-loop
+slice-aggregate-text-and-number c = search needs
 
-text-requires : tie.Need-text-requires Inv-loop μ-loop
-text-requires c κs = search needs
-
-number-requires : tie.Need-number-requires Inv-loop μ-loop
-number-requires c κs = search needs
+text-and-number-requires : tie.Need-text-and-number-requires Inv-loop μ-loop
+text-and-number-requires c κs = search needs
 
 damaged-requires : tie.Need-damaged-requires Inv-loop μ-loop
 damaged-requires c κs = search needs
@@ -48,9 +45,8 @@ each-damage-spec =
     Inv-loop
     μ-loop
     loop-holds
-    slice-aggregate-text
-    text-requires
-    number-requires
+    slice-aggregate-text-and-number
+    text-and-number-requires
     damaged-requires
     end-line-requires
     add-at

@@ -20,14 +20,11 @@ plan-requires c κs = search needs
 begin-requires : tie.Need-begin-requires
 begin-requires c κs = search needs
 
-slice-aggregate-text : tie.Need-slice-aggregate-text
-slice-aggregate-text c = search needs
+slice-aggregate-text-and-bytes : tie.Need-slice-aggregate-text-and-bytes
+slice-aggregate-text-and-bytes c = search needs
 
-text-requires : tie.Need-text-requires
-text-requires c κs = search needs
-
-bytes-requires : tie.Need-bytes-requires
-bytes-requires c κs = search needs
+text-and-bytes-requires : tie.Need-text-and-bytes-requires
+text-and-bytes-requires c κs = search needs
 
 end-requires : tie.Need-end-requires
 end-requires c κs = search needs
@@ -46,9 +43,8 @@ plan-spec =
     slice-aggregate-plan
     plan-requires
     begin-requires
-    slice-aggregate-text
-    text-requires
-    bytes-requires
+    slice-aggregate-text-and-bytes
+    text-and-bytes-requires
     end-requires
     same-length
     returns)
