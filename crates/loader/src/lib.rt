@@ -78,6 +78,7 @@ pub fn load(
         seed: 0,
     };
     let with_variables = sections::variables(file, origin, counts);
+    // Two calls of `rest` keep it a function of its own, and the loops before it fast: docs/DECISIONS.md, 'Speed'.
     if with_variables.last < 1 {
         return pace::rest(
             file,
