@@ -31,6 +31,7 @@ static answer misplaced(const uint8_t *f, size_t len, size_t at) {
   return refused((unsigned)(f[at] - 1) < 6 ? 3 : 2, at);
 }
 
+/* One function, since cut up into the sections it executed 3 % more. */
 static answer load(const uint8_t *f, size_t len, study *s) {
   size_t at = 0;
   unsigned n = 0, a = 0;
@@ -125,12 +126,14 @@ static int lowest(const uint64_t ready[4]) {
   return -1;
 }
 
-static answer plan_loaded(const uint8_t *f, const uint8_t *ranks, study *s, uint8_t *plan, size_t plan_len) {
-  planner p;
-  uint64_t walk[4] = {0, 0, 0, 0};
-  uint8_t by_rank[MOST_ACTIONS], out[MOST_ACTIONS];
-  unsigned n = s->variables, total = 0;
-  p.file = f, p.ranks = ranks, p.s = s;
+static const answer fine = {0, 0, 0};
+
+/* The parts of `plan_loaded`: compiled into it, so that cutting it up costs nothing. */
+#define PART static inline __attribute__((always_inline))
+
+/* Traces the walks back from the goals: the number of their actions, or refusal 10. */
+PART answer trace_walks(planner *p, const study *s, unsigned n, uint64_t walk[4]) {
+  unsigned total = 0;
   for (unsigned v = 0; v < n; v++) {
     unsigned q = s->goals[v], on = 1u << q;
     for (; q != s->starts[v]; total++) {
@@ -139,43 +142,72 @@ static answer plan_loaded(const uint8_t *f, const uint8_t *ranks, study *s, uint
       q = s->pre[i];
       if (on >> q & 1) return refused(10, v);
       on |= 1u << q;
-      p.leaves[16 * v + q] = (uint8_t)i;
+      p->leaves[16 * v + q] = (uint8_t)i;
       walk[i >> 6] |= 1ull << (i & 63);
     }
-    p.on[v] = (uint16_t)on;
+    p->on[v] = (uint16_t)on;
   }
-  memset(p.wants, 0, 16 * n);
+  return three(0, total, 0);
+}
+
+/* Counts what the conditions of walk actions want, or refusal 11. */
+PART answer count_wants(planner *p, const study *s, unsigned n, const uint64_t walk[4], uint8_t *by_rank) {
+  const uint8_t *f = p->file, *ranks = p->ranks;
+  memset(p->wants, 0, 16 * n);
   for (int w = 0; w < 4; w++)
     for (uint64_t left = walk[w]; left; left &= left - 1) {
       unsigned i = 64 * (unsigned)w + (unsigned)__builtin_ctzll(left);
       by_rank[ranks[i]] = (uint8_t)i;
       for (unsigned at = s->place[i], end = s->end[i]; at < end; at += 3) {
         unsigned u = f[at + 1], q = f[at + 2];
-        if (!(p.on[u] >> q & 1)) return three(11, i, u);
-        p.wants[16 * u + q]++;
+        if (!(p->on[u] >> q & 1)) return three(11, i, u);
+        p->wants[16 * u + q]++;
       }
     }
-  memset(p.ready, 0, sizeof p.ready);
-  memset(p.waiting, 0, 4 * n);
+  return fine;
+}
+
+/* Takes action i, and looks at whom that sets free. */
+PART void take(planner *p, study *s, const uint8_t *f, unsigned i) {
+  unsigned v = s->variable[i], q = s->post[i];
+  for (unsigned at = s->place[i], end = s->end[i]; at < end; at += 3) {
+    unsigned u = f[at + 1];
+    if (--p->wants[16 * u + f[at + 2]] == 0) look(p, u);
+  }
+  s->starts[v] = (uint8_t)q;
+  if (q != s->goals[v]) p->next[v] = s->place[p->leaves[16 * v + q]];
+  look(p, v);
+  uint32_t wake = p->waiting[v];
+  p->waiting[v] = 0;
+  for (; wake; wake &= wake - 1) look(p, (unsigned)__builtin_ctz(wake));
+}
+
+PART void look_first(planner *p, const study *s, unsigned n) {
+  memset(p->ready, 0, sizeof p->ready);
+  memset(p->waiting, 0, 4 * n);
   for (unsigned v = 0; v < n; v++)
-    if (s->starts[v] != s->goals[v]) p.next[v] = s->place[p.leaves[16 * v + s->starts[v]]];
-  for (unsigned v = 0; v < n; v++) look(&p, v);
+    if (s->starts[v] != s->goals[v]) p->next[v] = s->place[p->leaves[16 * v + s->starts[v]]];
+  for (unsigned v = 0; v < n; v++) look(p, v);
+}
+
+static answer plan_loaded(const uint8_t *f, const uint8_t *ranks, study *s, uint8_t *plan, size_t plan_len) {
+  planner p;
+  uint64_t walk[4] = {0, 0, 0, 0};
+  uint8_t by_rank[MOST_ACTIONS], out[MOST_ACTIONS];
+  p.file = f, p.ranks = ranks, p.s = s;
+  unsigned n = s->variables;
+  answer traced = trace_walks(&p, s, n, walk);
+  if (traced.number != 0) return traced;
+  answer wanted = count_wants(&p, s, n, walk, by_rank);
+  if (wanted.number != 0) return wanted;
+  look_first(&p, s, n);
+  unsigned total = (unsigned)traced.first;
   for (unsigned k = 0; k < total; k++) {
     int rank = lowest(p.ready);
     if (rank < 0) return refused(12, k);
     p.ready[rank >> 6] &= p.ready[rank >> 6] - 1;
-    unsigned i = by_rank[rank], v = s->variable[i], q = s->post[i];
-    out[k] = (uint8_t)i;
-    for (unsigned at = s->place[i], end = s->end[i]; at < end; at += 3) {
-      unsigned u = f[at + 1];
-      if (--p.wants[16 * u + f[at + 2]] == 0) look(&p, u);
-    }
-    s->starts[v] = (uint8_t)q;
-    if (q != s->goals[v]) p.next[v] = s->place[p.leaves[16 * v + q]];
-    look(&p, v);
-    uint32_t wake = p.waiting[v];
-    p.waiting[v] = 0;
-    for (; wake; wake &= wake - 1) look(&p, (unsigned)__builtin_ctz(wake));
+    out[k] = by_rank[rank];
+    take(&p, s, f, by_rank[rank]);
   }
   if (plan_len < total) return refused(13, total);
   memcpy(plan, out, total);
