@@ -20,7 +20,7 @@ pub(crate) enum Choice {
     Nothing,
 }
 
-// How many of an action's conditions hold, from number k on until one fails.
+// The first of an action's conditions that fails, not before a number; or how many there are.
 fn count_held(file: &[u8], place: usize, many: u8, state: &[u8; 32], from: u8) -> u8
     requires { ⌜ Readable (now file) place many × (from ≤ many) ⌝ }
     ensures { λ r. ⌜ FirstOpen (now (file .entry)) place many (now (state .entry)) from r ⌝ }
@@ -195,6 +195,8 @@ fn best(
     }
 }
 
+// By variable: `held`, how many conditions of its next action were found to hold; `full`, that action's key; `keys`, the same
+// while the variable may be looked at; `waits`, the variable that it waits for; `awaited`, whether somebody waits for it.
 pub(crate) fn take_all(
     file: &[u8],
     ranks: &[u8],
