@@ -8,6 +8,7 @@ use lib.Dec.{leb, ltb}
 use lib.ListN.{length, drop}
 use Rattle.answer.specs.declared.Answer.{Answer}
 use Rattle.answer.specs.Answers.{done, refusal}
+use Rattle.answer.specs.Allowing.{Allowing, Exactly}
 use Rattle.ranks.specs.Ranks.{rising, exchanged}
 
 -- the next number is 16807 times the last, modulo 2,147,483,647
@@ -55,3 +56,7 @@ drawAnswer seed count room = answerBy (refused seed count room) (done (drawnLast
 abbrev pub drawLeaves : ℕ → ℕ → List ℕ → List ℕ
 drawLeaves seed count before =
     bytesBy (refused seed count (length before)) (drawn seed count ++ drop count before) before
+
+-- what a draw may answer, and the lent bytes afterwards
+abbrev pub DrawAllows : ℕ → ℕ → List ℕ → Allowing
+DrawAllows seed count before = Exactly (drawAnswer seed count (length before)) (drawLeaves seed count before)

@@ -6,7 +6,7 @@ ghost use Prim.Native.Nat.{_-_, _<_, _≤_};
 ghost use lib.ListN.{length, drop};
 ghost use Rattle.answer.specs.Answers.{refusal};
 ghost use Rattle.ranks.specs.Ranks.{rising, exchanged};
-ghost use Rattle.draw.specs.Draw.{numberAfter, shuffled, drawAnswer, drawLeaves};
+ghost use Rattle.draw.specs.Draw.{numberAfter, shuffled, DrawAllows};
 ghost use Rattle.draw.specs.Draw.{next as Draw·next};
 
 const LARGEST_SEED: u64 = 2147483646;
@@ -77,9 +77,7 @@ fn refuse(number: u64, first: u64) -> Answer
 
 // Draws a rank list for `count` actions into the first bytes of `ranks`.
 pub fn draw(seed: u64, count: u64, ranks: &mut [u8]) -> Answer
-    ensures { λ r.
-        ⌜ (r ≡ drawAnswer seed count (length (now (ranks .entry))))
-        × (now (ranks .exit) ≡ drawLeaves seed count (now (ranks .entry))) ⌝ }
+    ensures { λ r. ⌜ DrawAllows seed count (now (ranks .entry)) r (now (ranks .exit)) ⌝ }
 {
     if seed < 1 {
         return refuse(18, seed);

@@ -5,11 +5,12 @@ use mathlib.Core.Path.{_≡_}
 use mathlib.Core.List.{List, _++_}
 use lib.ListN.{length, getD, drop}
 use Rattle.answer.specs.Answers.{three, done, refusal}
+use Rattle.answer.specs.Allowing.{Allowing, Exactly}
 use Rattle.answer.specs.declared.Answer.{Answer}
 use Rattle.ranking.specs.Ranking.{tested}
 use Rattle.ranking.specs.declared.Tested.the-variants.{Fine, Length, Entry}
 use Rattle.study.specs.Study.{Study}
-use Rattle.study.specs.Reading.{Said, says, refused}
+use Rattle.study.specs.Reading.{Said, says, refused, reading}
 use Rattle.plans.specs.Plans.{StraightPlan}
 use Rattle.orders.specs.Orders.{OnRing, Behind, Counted, First}
 use Rattle.walks.specs.Walks.{Walk, OnAWalk, ValueOnWalk, Wants, ComesBefore, Walks, Met, conditionsOf}
@@ -60,7 +61,10 @@ pub data Plans (t : Study) (ranks before : List ℕ) : Answer → List ℕ → T
       {list : List ℕ} → tested ranks (length (t .actions)) ≡ Fine → FirstPlan t ranks list → length list ≤ length before
       → Plans t ranks before (done (length list) 0) (list ++ drop (length list) before)
 
--- what planning a file may answer
-abbrev pub PlansFile : Said → List ℕ → List ℕ → Answer → List ℕ → Type 0
-PlansFile (says t) ranks before r after = Plans t ranks before r after
-PlansFile (refused number place) ranks before r after = (r ≡ refusal number place) × (after ≡ before)
+-- what planning what a file says may answer, and so planning a file
+abbrev pub PlansFile : Said → List ℕ → List ℕ → Allowing
+PlansFile (says t) ranks before = Plans t ranks before
+PlansFile (refused number place) ranks before = Exactly (refusal number place) before
+
+abbrev pub PlanAllows : List ℕ → List ℕ → List ℕ → Allowing
+PlanAllows file = PlansFile (reading file)

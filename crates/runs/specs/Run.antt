@@ -7,9 +7,10 @@ use lib.Dec.{leb, ltb, eqb}
 use lib.ListN.{length, drop}
 use Rattle.plain.specs.Choose.{pick}
 use Rattle.answer.specs.Answers.{three, done, refusal}
+use Rattle.answer.specs.Allowing.{Allowing, Exactly}
 use Rattle.answer.specs.declared.Answer.{Answer}
 use Rattle.study.specs.Study.{Condition, Action, Task, Study, actionAt}
-use Rattle.study.specs.Reading.{Said, says, refused}
+use Rattle.study.specs.Reading.{Said, says, refused, reading}
 use Rattle.plans.specs.Plans.{State, valueOf, after, startState}
 
 -- a run ends in a state, or is refused
@@ -69,3 +70,8 @@ runAnswer (stops a) = a
 abbrev pub runLeaves : Ran → List ℕ → List ℕ
 runLeaves (endsIn s) before = s ++ drop (length s) before
 runLeaves (stops a) before = before
+
+-- what running a list on a file may answer, and the buffer afterwards
+abbrev pub RunAllows : List ℕ → List ℕ → List ℕ → Allowing
+RunAllows file list before =
+    Exactly (runAnswer (ran (reading file) (length before) list)) (runLeaves (ran (reading file) (length before) list) before)

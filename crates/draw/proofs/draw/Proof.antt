@@ -9,21 +9,17 @@ use lib.ListN.{length, drop}
 use borrow.Author.Needs.{needs}
 use Rattle.answer.specs.declared.Answer.{Answer}
 use Rattle.answer.specs.Answers.{done}
-use Rattle.draw.specs.Draw.{shuffled, drawn, drawnLast, refused, drawAnswer, drawLeaves}
+use Rattle.draw.specs.Draw.{shuffled, drawn, drawnLast, refused, DrawAllows}
 use Rattle.draw.proofs.Drawn.{drawn-in-front, seed-too-low, seed-too-high, count-too-high, room-too-short, not-refused}
 use Rattle.draw.proofs.draw.Statement.{statement}
 use Rattle.draw.proofs.draw.Tie as tie
 
--- what a call gives, and leaves of l
-abbrev Meets : ℕ → ℕ → List ℕ → Answer → List ℕ → Type 0
-Meets seed count l answer left = (answer ≡ drawAnswer seed count (length l)) × (left ≡ drawLeaves seed count l)
-
 module _ (seed count : ℕ) (l : List ℕ) (answer : Answer) where
-  refuses : {r : Answer} → answer ≡ r → refused seed count (length l) ≡ some r → Meets seed count l answer l
+  refuses : {r : Answer} → answer ≡ r → refused seed count (length l) ≡ some r → DrawAllows seed count l answer l
   refuses given due = rw due (given, refl)
 
   draws : (left : List ℕ) → answer ≡ done (drawnLast seed count) 0 → left ≡ drawn seed count ++ drop count l
-      → refused seed count (length l) ≡ none → Meets seed count l answer left
+      → refused seed count (length l) ≡ none → DrawAllows seed count l answer left
   draws left given filled due = rw due (given, filled)
 
 refuse-requires : tie.Need-refuse-requires
