@@ -1,13 +1,11 @@
 // Checks a study file.
-ghost use mathlib.Core.Path.{_≡_};
-ghost use Rattle.study.specs.Reading.{reading};
-ghost use Rattle.checker.specs.Check.{checkAnswer};
+ghost use Rattle.checker.specs.Check.{CheckAllows};
 use answer::Answer;
 use loader::Loaded;
 
 // Answer 0 gives how many actions and how many variables.
 pub fn check(file: &[u8]) -> Answer
-    ensures { λ r. ⌜ r ≡ checkAnswer (reading (now (file .entry))) ⌝ }
+    ensures { λ r. ⌜ CheckAllows (now (file .entry)) r ⌝ }
 {
     let mut counts = [0u8; 32];
     let mut setters = [0u8; 512];

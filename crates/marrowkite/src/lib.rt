@@ -1,14 +1,11 @@
 // The library that a host links: document 01's calls, exported to C with their contracts.
 ghost use mathlib.Core.Path.{_≡_};
-ghost use lib.ListN.{length};
-ghost use Rattle.study.specs.Reading.{reading};
-ghost use Rattle.checker.specs.Check.{checkAnswer};
-ghost use Rattle.draw.specs.Draw.{drawAnswer, drawLeaves};
-ghost use Rattle.runs.specs.Run.{ran, runAnswer, runLeaves};
-ghost use Rattle.planning.specs.Planning.{PlansFile};
-ghost use Rattle.planner.specs.Seeded.{PlansSeeded};
-ghost use Rattle.records.specs.Records.{recordAt};
-ghost use Rattle.marrowkite.specs.Told.{told};
+ghost use Rattle.checker.specs.Check.{CheckAllows};
+ghost use Rattle.draw.specs.Draw.{DrawAllows};
+ghost use Rattle.runs.specs.Run.{RunAllows};
+ghost use Rattle.planning.specs.Planning.{PlanAllows};
+ghost use Rattle.planning.specs.Seeded.{SeededAllows};
+ghost use Rattle.marrowkite.specs.Told.{RecordAllows};
 use answer::Answer;
 use records::Found;
 
@@ -37,7 +34,7 @@ fn refused(number: u64, place: usize) -> Record
 
 #[no_mangle]
 pub extern "C" fn marrowkite_record_at(file: &[u8], at: u64) -> Record
-    ensures { λ r. ⌜ r ≡ told (recordAt (now (file .entry)) at) ⌝ }
+    ensures { λ r. ⌜ RecordAllows (now (file .entry)) at r ⌝ }
 {
     let found = records::record_at(file, at as usize);
     match found {
@@ -56,36 +53,35 @@ pub extern "C" fn marrowkite_record_at(file: &[u8], at: u64) -> Record
 
 #[no_mangle]
 pub extern "C" fn marrowkite_check(file: &[u8]) -> Answer
-    ensures { λ r. ⌜ r ≡ checkAnswer (reading (now (file .entry))) ⌝ }
+    ensures { λ r. ⌜ CheckAllows (now (file .entry)) r ⌝ }
 {
     checker::check(file)
 }
 
 #[no_mangle]
 pub extern "C" fn marrowkite_plan(file: &[u8], ranks: &[u8], plan: &mut [u8]) -> Answer
-    ensures { λ r. ⌜ PlansFile (reading (now (file .entry))) (now (ranks .entry)) (now (plan .entry)) r (now (plan .exit)) ⌝ }
+    ensures { λ r. ⌜ PlanAllows (now (file .entry)) (now (ranks .entry)) (now (plan .entry)) r (now (plan .exit)) ⌝ }
 {
     planner::plan(file, ranks, plan)
 }
 
 #[no_mangle]
 pub extern "C" fn marrowkite_plan_seeded(file: &[u8], plan: &mut [u8]) -> Answer
-    ensures { λ r. ⌜ PlansSeeded (reading (now (file .entry))) (now (plan .entry)) r (now (plan .exit)) ⌝ }
+    ensures { λ r. ⌜ SeededAllows (now (file .entry)) (now (plan .entry)) r (now (plan .exit)) ⌝ }
 {
     planner::plan_seeded(file, plan)
 }
 
 #[no_mangle]
 pub extern "C" fn marrowkite_run(file: &[u8], plan: &[u8], state: &mut [u8]) -> Answer
-    ensures { λ r. ⌜ r ≡ runAnswer (ran (reading (now (file .entry))) (length (now (state .entry))) (now (plan .entry))) ⌝ }
-    ensures { λ r. ⌜ now (state .exit) ≡ runLeaves (ran (reading (now (file .entry))) (length (now (state .entry))) (now (plan .entry))) (now (state .entry)) ⌝ }
+    ensures { λ r. ⌜ RunAllows (now (file .entry)) (now (plan .entry)) (now (state .entry)) r (now (state .exit)) ⌝ }
 {
     running::run(file, plan, state)
 }
 
 #[no_mangle]
 pub extern "C" fn marrowkite_draw(seed: u64, count: u64, ranks: &mut [u8]) -> Answer
-    ensures { λ r. ⌜ (r ≡ drawAnswer seed count (length (now (ranks .entry)))) × (now (ranks .exit) ≡ drawLeaves seed count (now (ranks .entry))) ⌝ }
+    ensures { λ r. ⌜ DrawAllows seed count (now (ranks .entry)) r (now (ranks .exit)) ⌝ }
 {
     draw::draw(seed, count, ranks)
 }

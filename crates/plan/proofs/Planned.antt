@@ -13,7 +13,7 @@ use Rattle.study.specs.Reading.{Said, says, refused, reading}
 use Rattle.study.proofs.Refusals.{NumberedIfRefused, refusals-numbered}
 use Rattle.plans.specs.Plans.{State, Runs, after}
 use Rattle.planning.specs.Planning.{Plans, wrong-length, wrong-entry, no-walk, off-walk, ring, no-room, a-plan}
-use Rattle.planner.specs.Seeded.{PlansSeeded}
+use Rattle.planning.specs.Seeded.{PlansSeeded}
 use Rattle.loader.specs.Tables.{Tables, Holds}
 use Rattle.loader.specs.Steps.{Loads}
 use Rattle.loader.specs.declared.Loaded.{Loaded}

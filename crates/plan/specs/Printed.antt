@@ -9,7 +9,7 @@ use Rattle.plain.specs.Choose.{pick}
 use Rattle.answer.specs.declared.Answer.{Answer}
 use Rattle.study.specs.Study.{Action}
 use Rattle.study.specs.Reading.{Said, says, refused}
-use Rattle.planner.specs.Seeded.{PlansSeeded}
+use Rattle.planning.specs.Seeded.{PlansSeeded}
 use Rattle.plan.specs.Text.{shownOf, planText, refusedLine}
 
 abbrev pub actionsOf : Said → List Action

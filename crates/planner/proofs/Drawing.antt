@@ -16,7 +16,7 @@ use Rattle.loader.specs.Tables.{ActionTables}
 use Rattle.draw.specs.Draw.{drawn, drawLeaves}
 use Rattle.draw.proofs.Drawn.{drawn-is-rank-list, not-refused}
 use Rattle.planning.specs.Planning.{Plans}
-use Rattle.planner.specs.Seeded.{PlansSeeded}
+use Rattle.planning.specs.Seeded.{PlansSeeded}
 use Rattle.planner.specs.Whole.{Known}
 
 pub drawn-fine : (seed a : ℕ) → tested (drawn seed a) a ≡ Fine

@@ -4,4 +4,3 @@ pub mod Wanting
 pub mod Taking
 pub mod Keys
 pub mod Whole
-pub mod Seeded

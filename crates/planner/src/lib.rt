@@ -4,16 +4,15 @@ mod taking;
 mod tracing;
 mod wanting;
 
-ghost use Rattle.study.specs.Reading.{reading};
-ghost use Rattle.planning.specs.Planning.{PlansFile};
-ghost use Rattle.planner.specs.Seeded.{PlansSeeded};
+ghost use Rattle.planning.specs.Planning.{PlanAllows};
+ghost use Rattle.planning.specs.Seeded.{SeededAllows};
 use answer::Answer;
 use loader::Loaded;
 use ranking::Tested;
 
 // Answer 0 gives the plan's length and writes the plan; a refusal alters nothing.
 pub fn plan(file: &[u8], ranks: &[u8], plan: &mut [u8]) -> Answer
-    ensures { λ r. ⌜ PlansFile (reading (now (file .entry))) (now (ranks .entry)) (now (plan .entry)) r (now (plan .exit)) ⌝ }
+    ensures { λ r. ⌜ PlanAllows (now (file .entry)) (now (ranks .entry)) (now (plan .entry)) r (now (plan .exit)) ⌝ }
 {
     let mut counts = [0u8; 32];
     let mut setters = [0u8; 512];
@@ -67,7 +66,7 @@ pub fn plan(file: &[u8], ranks: &[u8], plan: &mut [u8]) -> Answer
 
 // The same with the list that the file's own seed draws.
 pub fn plan_seeded(file: &[u8], plan: &mut [u8]) -> Answer
-    ensures { λ r. ⌜ PlansSeeded (reading (now (file .entry))) (now (plan .entry)) r (now (plan .exit)) ⌝ }
+    ensures { λ r. ⌜ SeededAllows (now (file .entry)) (now (plan .entry)) r (now (plan .exit)) ⌝ }
 {
     let mut counts = [0u8; 32];
     let mut setters = [0u8; 512];

@@ -6,10 +6,8 @@ mod steps;
 ghost use mathlib.Core.Path.{_≡_};
 ghost use mathlib.Core.List.{List};
 ghost use Prim.Native.Nat.{ℕ, _<_};
-ghost use lib.ListN.{length};
 ghost use Rattle.answer.specs.Answers.{three};
-ghost use Rattle.study.specs.Reading.{reading};
-ghost use Rattle.runs.specs.Run.{ran, runAnswer, runLeaves};
+ghost use Rattle.runs.specs.Run.{RunAllows};
 ghost use Rattle.loader.specs.Tables.{tables, actionTables};
 ghost use Rattle.loader.specs.Steps.{Loads};
 ghost use Rattle.running.specs.Running.{Met, refusedBy};
@@ -114,8 +112,7 @@ fn run_loaded(
 
 // Answer 0 gives the number of variables and writes the end state; a refusal alters nothing.
 pub fn run(file: &[u8], plan: &[u8], state: &mut [u8]) -> Answer
-    ensures { λ r. ⌜ r ≡ runAnswer (ran (reading (now (file .entry))) (length (now (state .entry))) (now (plan .entry))) ⌝ }
-    ensures { λ r. ⌜ now (state .exit) ≡ runLeaves (ran (reading (now (file .entry))) (length (now (state .entry))) (now (plan .entry))) (now (state .entry)) ⌝ }
+    ensures { λ r. ⌜ RunAllows (now (file .entry)) (now (plan .entry)) (now (state .entry)) r (now (state .exit)) ⌝ }
 {
     let mut counts = [0u8; 32];
     let mut setters = [0u8; 512];

@@ -5,21 +5,26 @@ use mathlib.Core.List.{List}
 use Prim.Native.Nat.{ℕ}
 use lib.ListN.{length}
 use Rattle.answer.specs.declared.Answer.{Answer}
+use Rattle.answer.specs.Allowing.{Exactly, Settles, SettlesOne}
 use Rattle.study.specs.Reading.{Said, says, refused, reading}
 use Rattle.lawful.proofs.Loads.{loads-lawful}
-use Rattle.draw.specs.Draw.{drawAnswer, drawLeaves}
-use Rattle.runs.specs.Run.{ran, runAnswer, runLeaves}
-use Rattle.planner.specs.Seeded.{PlansSeeded}
+use Rattle.checker.specs.Check.{CheckAllows}
+use Rattle.draw.specs.Draw.{drawAnswer, drawLeaves, DrawAllows}
+use Rattle.runs.specs.Run.{ran, runAnswer, runLeaves, RunAllows}
+use Rattle.planning.specs.Planning.{PlanAllows}
+use Rattle.planning.specs.Seeded.{PlansSeeded, SeededAllows}
 use Rattle.planning.proofs.Determined.{plans-determined, file-plans-determined}
-use Rattle.marrowkite.specs.declared.Record.{Record}
-use Rattle.settled.specs.Allows.{Exactly, Settles, CheckAllows, DrawAllows, RunAllows, PlanAllows, SeededAllows, RecordAllows}
+use Rattle.marrowkite.specs.Told.{RecordAllows}
 
 -- what is given by equations is settled
 exactly-settles : (answer : Answer) (bytes : List ℕ) → Settles (Exactly answer bytes)
 exactly-settles answer bytes r r′ after after′ p q = (p .0 ∙ sym (q .0), p .1 ∙ sym (q .1))
 
-pub check-settled : (file : List ℕ) → Settles (CheckAllows file)
-check-settled file = exactly-settles _ _
+pub check-settled : (file : List ℕ) → SettlesOne (CheckAllows file)
+check-settled file r r′ p q = p ∙ sym q
+
+pub record-settled : (file : List ℕ) (at : ℕ) → SettlesOne (RecordAllows file at)
+record-settled file at r r′ p q = p ∙ sym q
 
 pub draw-settled : (seed count : ℕ) (before : List ℕ) → Settles (DrawAllows seed count before)
 draw-settled seed count before = exactly-settles (drawAnswer seed count (length before)) (drawLeaves seed count before)
@@ -38,6 +43,3 @@ seeded-settled file before r r′ after after′ = by (reading file) refl
         (said : Said) → reading file ≡ said → PlansSeeded said before r after → PlansSeeded said before r′ after′ → (r ≡ r′) × (after ≡ after′)
     by (says t) e p q = plans-determined (loads-lawful file t e) p q
     by (refused number place) e p q = (p .0 ∙ sym (q .0), p .1 ∙ sym (q .1))
-
-pub record-settled : (file : List ℕ) (at : ℕ) (r r′ : Record) → RecordAllows file at r → RecordAllows file at r′ → r ≡ r′
-record-settled file at r r′ p q = p ∙ sym q
