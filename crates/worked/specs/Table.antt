@@ -4,14 +4,15 @@ use Prim.Native.Nat.{ℕ}
 use mathlib.Core.Path.{_≡_}
 use mathlib.Core.Logic.{_⊎_, _↔_}
 use mathlib.Core.List.{List, [], _∷_, _++_}
-use lib.ListN.{length, getD, set}
+use lib.ListN.{getD, set}
 use Rattle.answer.specs.Answers.{three, done, refusal}
+use Rattle.answer.specs.Allowing.{Allowing, AllowsOnly}
 use Rattle.answer.specs.declared.Answer.{Answer}
-use Rattle.draw.specs.Draw.{drawAnswer, drawLeaves}
+use Rattle.draw.specs.Draw.{DrawAllows}
 use Rattle.study.specs.Reading.{Said, says, refused, reading}
 use Rattle.plans.specs.Plans.{StraightPlan}
-use Rattle.runs.specs.Run.{ran, runAnswer, runLeaves}
-use Rattle.planning.specs.Planning.{PlansFile}
+use Rattle.runs.specs.Run.{RunAllows}
+use Rattle.planning.specs.Planning.{PlanAllows}
 
 -- ---- what a row says
 
@@ -24,16 +25,10 @@ pub data Call : Type 0 where
   run : List ℕ → List ℕ → Call
 
 -- what the call's contract allows: the lent bytes before, the answer, and the bytes afterwards
-abbrev pub Allows : Call → List ℕ → Answer → List ℕ → Type 0
-Allows (draw seed count) before r after = (r ≡ drawAnswer seed count (length before)) × (after ≡ drawLeaves seed count before)
-Allows (plan file ranks) before r after = PlansFile (reading file) ranks before r after
-Allows (run file list) before r after =
-    (r ≡ runAnswer (ran (reading file) (length before) list)) × (after ≡ runLeaves (ran (reading file) (length before) list) before)
-
--- the contract allows this answer with these bytes, and no other
-pub record Settled (call : Call) (before : List ℕ) (answer : Answer) (after : List ℕ) : Type 0 where
-  pub allowed : Allows call before answer after
-  pub only : (r : Answer) (bytes : List ℕ) → Allows call before r bytes → (r ≡ answer) × (bytes ≡ after)
+abbrev pub Allows : Call → List ℕ → Allowing
+Allows (draw seed count) before = DrawAllows seed count before
+Allows (plan file ranks) before = PlanAllows file ranks before
+Allows (run file list) before = RunAllows file list before
 
 -- the straight plans of what a file says; a refused file has none
 abbrev pub StraightIn : Said → List ℕ → Type 0
@@ -51,7 +46,7 @@ pub data Row : Type 0 where
   straight-plans : List ℕ → List (List ℕ) → Row
 
 abbrev pub Holds : Row → Type 0
-Holds (answers call before answer after) = Settled call before answer after
+Holds (answers call before answer after) = AllowsOnly (Allows call before) answer after
 Holds (straight-plans file lists) = (list : List ℕ) → StraightIn (reading file) list ↔ OneOf list lists
 
 -- ---- the files
