@@ -24,8 +24,8 @@ LawfulIfSaid (says s) = Lawful s
 LawfulIfSaid (refused n place) = Unit
 
 -- .. and a draft to read on with is sound
-abbrev SoundVerdict : Verdict → Type 0
-SoundVerdict = VerdictHas LawfulIfSaid Sound
+abbrev pub SoundVerdict : Verdict → Type 0
+SoundVerdict = VerdictHas LawfulIfSaid (λ at. Sound)
 
 unless-sound : (n at : ℕ) (v : Verdict) → (n ≡ 0 → SoundVerdict v) → SoundVerdict (unless n at v)
 unfolding unless
@@ -58,12 +58,12 @@ module _ (file : List ℕ) {d : Draft} (sound : Sound d) where
   judged-sound at (Cut kind place) = tt
   judged-sound at (Ended place) = tt
 
-  verdict-sound : (at : ℕ) → SoundVerdict (verdictAt file at d)
+  pub verdict-sound : (at : ℕ) → SoundVerdict (verdictAt file at d)
   unfolding verdictAt
   verdict-sound at = judged-sound at (recordAt file at)
 
 pub reading-lawful : (file : List ℕ) → LawfulIfSaid (reading file)
-reading-lawful file = reading-has LawfulIfSaid Sound file tt (λ at d sound. verdict-sound file sound at) blank-sound
+reading-lawful file = reading-has LawfulIfSaid (λ at. Sound) file tt (λ at d sound. verdict-sound file sound at) blank-sound
 
 pub loads-lawful : (file : List ℕ) (s : Study) → reading file ≡ says s → Lawful s
 loads-lawful file s e = subst LawfulIfSaid e (reading-lawful file)

@@ -1,24 +1,47 @@
--- A file that is refused is refused with a number from 1 on.
+-- A file that is refused is refused with a number from 1 to 8.
 -- Assumes nothing.
+use mathlib.Core.Path.{_≡_}
+use mathlib.Core.Bool.{Bool, true, false, not, _&&_}
 use mathlib.Core.List.{List}
 use Prim.Native.Nat.{ℕ, zero, suc, _≤_}
 use native.Mathlib.Omega.{arith}
-use lib.Dec.{ltb}
+use lib.Dec.{leb, ltb, eqb}
 use lib.ListN.{length}
+use Rattle.plain.specs.Choose.{pick}
 use Rattle.plain.proofs.Tests.{picked}
 use Rattle.records.specs.Records.{recordAt}
 use Rattle.records.specs.declared.Found.{Found}
 use Rattle.records.specs.declared.Found.the-variants.{There, Unknown, Cut, Ended}
-use Rattle.study.specs.Reading.{Said, says, refused, Record, variable, action, condition, task, seed, end, recordFrom, Draft, allowed, fault}
+use Rattle.study.specs.Study.{Study}
+use Rattle.study.specs.Reading.{Said, says, refused, Record, variable, action, condition, task, seed, end, recordFrom, Draft, allowed, inRange, sets, above, lastAction, fault}
 use Rattle.study.specs.Reading.{Verdict, taken, unless, judged, verdictAt, reading}
 use Rattle.study.proofs.Readings.{VerdictHas, reading-has}
 
 abbrev pub NumberedIfRefused : Said → Type 0
 NumberedIfRefused (says t) = Unit {0}
-NumberedIfRefused (refused number place) = 1 ≤ number
+NumberedIfRefused (refused number place) = (1 ≤ number) × (number ≤ 8)
 
 abbrev NumberedVerdict : Verdict → Type 0
-NumberedVerdict = VerdictHas NumberedIfRefused (λ d. Unit {0})
+NumberedVerdict = VerdictHas NumberedIfRefused (λ at d. Unit {0})
+
+small : (b : Bool) {x y : ℕ} → (b ≡ true → x ≤ 7) → (b ≡ false → y ≤ 7) → pick b x y ≤ 7
+small = picked (λ (n : ℕ). n ≤ 7)
+
+fault-small : (s : Study) (r : Record) → fault s r ≤ 7
+unfolding fault
+fault-small s (variable n) = small (leb 32 (length (s .counts))) (λ _. omega arith) (λ _. small (leb 2 n && leb n 16) (λ _. omega arith) (λ _. omega arith))
+fault-small s (action v p q) =
+    small (leb 256 (length (s .actions))) (λ _. omega arith)
+    λ _. small (not (inRange s v p && inRange s v q)) (λ _. omega arith)
+    λ _. small (eqb p q) (λ _. omega arith)
+    λ _. small (sets (s .actions) v q) (λ _. omega arith) (λ _. omega arith)
+fault-small s (condition v q) =
+    small (not (inRange s v q)) (λ _. omega arith)
+    λ _. small (eqb v (lastAction s .var)) (λ _. omega arith)
+    λ _. small (above (lastAction s .conditions) v) (λ _. omega arith) (λ _. omega arith)
+fault-small s (task v p q) = small (eqb v (length (s .tasks)) && (inRange s v p && inRange s v q)) (λ _. omega arith) (λ _. omega arith)
+fault-small s (seed n) = small (leb 1 n && leb n 2147483646) (λ _. omega arith) (λ _. omega arith)
+fault-small s end = omega arith
 
 taken-numbered : (file : List ℕ) (d : Draft) (kind next : ℕ) (r : Record) → NumberedVerdict (taken file d kind next r)
 unfolding taken
@@ -29,19 +52,19 @@ taken-numbered file d kind next (task v p q) = tt
 taken-numbered file d kind next (seed n) = tt
 taken-numbered file d kind next end = picked NumberedIfRefused (ltb next (length file)) (λ _. omega arith) (λ _. tt)
 
-unless-numbered : (n at : ℕ) (v : Verdict) → NumberedVerdict v → NumberedVerdict (unless n at v)
+unless-numbered : (n at : ℕ) (v : Verdict) → n ≤ 7 → NumberedVerdict v → NumberedVerdict (unless n at v)
 unfolding unless
-unless-numbered zero at v h = h
-unless-numbered (suc n) at v h = omega arith
+unless-numbered zero at v small h = h
+unless-numbered (suc n) at v small h = omega arith
 
 judged-numbered : (file : List ℕ) (at : ℕ) (d : Draft) (f : Found) → NumberedVerdict (judged file at d f)
 unfolding judged
 judged-numbered file at d (There kind start next) =
     picked NumberedVerdict (allowed d kind)
-    (λ _. unless-numbered (fault (d .study) (recordFrom file start kind)) at _ (taken-numbered file d kind next (recordFrom file start kind)))
+    (λ _. unless-numbered (fault (d .study) (recordFrom file start kind)) at _ (fault-small (d .study) (recordFrom file start kind)) (taken-numbered file d kind next (recordFrom file start kind)))
     (λ _. omega arith)
 judged-numbered file at d (Unknown place) = omega arith
-judged-numbered file at d (Cut kind place) = picked (λ (n : ℕ). 1 ≤ n) (allowed d kind) (λ _. omega arith) (λ _. omega arith)
+judged-numbered file at d (Cut kind place) = picked (λ (n : ℕ). (1 ≤ n) × (n ≤ 8)) (allowed d kind) (λ _. omega arith) (λ _. omega arith)
 judged-numbered file at d (Ended place) = omega arith
 
 verdict-numbered : (file : List ℕ) (at : ℕ) (d : Draft) → NumberedVerdict (verdictAt file at d)
@@ -49,4 +72,4 @@ unfolding verdictAt
 verdict-numbered file at d = judged-numbered file at d (recordAt file at)
 
 pub refusals-numbered : (file : List ℕ) → NumberedIfRefused (reading file)
-refusals-numbered file = reading-has NumberedIfRefused (λ d. Unit {0}) file (omega arith) (λ at d _. verdict-numbered file at d) tt
+refusals-numbered file = reading-has NumberedIfRefused (λ at d. Unit {0}) file (omega arith) (λ at d _. verdict-numbered file at d) tt
