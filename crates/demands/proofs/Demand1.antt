@@ -1,0 +1,49 @@
+-- Demand 1, a refused call alters nothing: with any number but 0 no lent byte is altered. One theorem for each call that lends a buffer, for every input; a file that is refused is an input too.
+-- Assumes nothing.
+use mathlib.Core.Path.{ap}
+use mathlib.Core.Option.{Option, none, some}
+use mathlib.Core.List.{List}
+use Prim.Native.Nat.{ℕ}
+use lib.ListN.{length}
+use Rattle.answer.specs.declared.Answer.{Answer}
+use Rattle.answer.specs.Answers.{done}
+use Rattle.answer.specs.Allowing.{Exactly, RefusalAltersNothing}
+use Rattle.study.specs.Reading.{Said, says, refused, reading}
+use Rattle.draw.specs.Draw.{drawn, drawnLast, answerBy, bytesBy, DrawAllows}
+use Rattle.draw.specs.Draw.{refused as notDrawn}
+use Rattle.runs.specs.Run.{Ran, endsIn, stops, ran, runAnswer, runLeaves, RunAllows}
+use Rattle.planning.specs.Planning.{PlansFile, PlanAllows}
+use Rattle.planning.specs.Seeded.{ownRanks, PlansSeeded, SeededAllows}
+use Rattle.planning.proofs.Exact.{refusal-alters-nothing}
+
+said-unaltered : (said : Said) (ranks before : List ℕ) → RefusalAltersNothing (PlansFile said ranks before) before
+said-unaltered (says t) ranks before r after p h = refusal-alters-nothing p h
+said-unaltered (refused number place) ranks before r after p h = p .1
+
+seeded-unaltered : (said : Said) (before : List ℕ) → RefusalAltersNothing (PlansSeeded said before) before
+seeded-unaltered (says t) before r after p h = refusal-alters-nothing p h
+seeded-unaltered (refused number place) before r after p h = p .1
+
+run-unaltered : (outcome : Ran) (before : List ℕ) → RefusalAltersNothing (Exactly (runAnswer outcome) (runLeaves outcome before)) before
+run-unaltered (endsIn s) before r after p h = absurd (h (ap (λ (a : Answer). a .number) (p .0)))
+run-unaltered (stops a) before r after p h = p .1
+
+draw-unaltered :
+    (refusal : Option Answer) (last : ℕ) (list before : List ℕ)
+    → RefusalAltersNothing (Exactly (answerBy refusal (done last 0)) (bytesBy refusal list before)) before
+draw-unaltered none last list before r after p h = absurd (h (ap (λ (a : Answer). a .number) (p .0)))
+draw-unaltered (some a) last list before r after p h = p .1
+
+-- ---- the theorems
+
+pub refused-plan-alters-nothing : (file ranks before : List ℕ) → RefusalAltersNothing (PlanAllows file ranks before) before
+refused-plan-alters-nothing file = said-unaltered (reading file)
+
+pub refused-seeded-plan-alters-nothing : (file before : List ℕ) → RefusalAltersNothing (SeededAllows file before) before
+refused-seeded-plan-alters-nothing file = seeded-unaltered (reading file)
+
+pub refused-run-alters-nothing : (file list before : List ℕ) → RefusalAltersNothing (RunAllows file list before) before
+refused-run-alters-nothing file list before = run-unaltered (ran (reading file) (length before) list) before
+
+pub refused-draw-alters-nothing : (seed count : ℕ) (before : List ℕ) → RefusalAltersNothing (DrawAllows seed count before) before
+refused-draw-alters-nothing seed count before = draw-unaltered (notDrawn seed count (length before)) (drawnLast seed count) _ before
