@@ -48,7 +48,7 @@ off-determined {t} {i} {u} {j} {w} a b =
     (e, omega (arith, variable-not-below a c, variable-not-below c a))
 
 -- 10, 11, 12: one bar, as an earlier one bars what a later one takes for given
-barred-determined : {t : Study} {n x y n′ x′ y′ : ℕ} → Barred t n x y → Barred t n′ x′ y′ → three n x y ≡ three n′ x′ y′
+pub barred-determined : {t : Study} {n x y n′ x′ y′ : ℕ} → Barred t n x y → Barred t n′ x′ y′ → three n x y ≡ three n′ x′ y′
 barred-determined (without a) (without b) = let e = without-determined a b in cc
 barred-determined (without a) (off walks b) = absurd (without-bars-walks a walks)
 barred-determined (without a) (on-ring walks met c n) = absurd (without-bars-walks a walks)

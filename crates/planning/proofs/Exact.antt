@@ -70,6 +70,15 @@ module _ {t : Study} {ranks before : List ℕ} where
       from (planned fine p (short l)) h = refl
       from (planned fine p (fits l)) h = absurd (h refl)
 
+  pub rank-list-not-9 : RankList (length (t .actions)) ranks → {r : Answer} {after : List ℕ} → Plans t ranks before r after → r .number ≢ 9
+  rank-list-not-9 rank-list p = from (way-of p)
+    where
+      from : {r : Answer} {after : List ℕ} → Way t ranks before r after → r .number ≢ 9
+      from (at-fault f) h = rw (rank-list-is-fine rank-list) at f
+      from (barred fine b) h = omega (arith, barred-number b)
+      from (planned fine p (short l)) h = omega arith
+      from (planned fine p (fits l)) h = omega arith
+
   -- ---- with a rank list and room, 0 exactly if there is a straight plan
 
   module _ (lawful : Lawful t) (rank-list : RankList (length (t .actions)) ranks) where

@@ -3,6 +3,7 @@ pub mod Bars
 pub mod Found
 pub mod Bridge
 pub mod Ways
+pub mod Alike
 pub mod Exact
 pub mod Each
 pub mod Determined

@@ -1,0 +1,57 @@
+-- 10, 11 and 12 do not depend on the ranks, nor on the buffer: a file that is refused so is refused with the same three numbers whatever rank list and buffer are lent, and with its own seed.
+-- Assumes nothing.
+use Prim.Native.Nat.{ℕ, _≤_}
+use mathlib.Core.Path.{_≡_, sym, _∙_}
+use mathlib.Core.Logic.{_⊎_, inl, inr}
+use mathlib.Core.List.{List}
+use lib.ListN.{length}
+use Rattle.answer.specs.declared.Answer.{Answer}
+use Rattle.study.specs.Study.{Study}
+use Rattle.study.specs.Reading.{Said, says, refused, reading}
+use Rattle.lawful.proofs.Loads.{LawfulIfSaid, reading-lawful}
+use Rattle.draw.proofs.Drawn.{drawn-is-rank-list}
+use Rattle.planning.specs.Planning.{PlansFile, PlanAllows}
+use Rattle.planning.specs.Seeded.{PlansSeeded, SeededAllows}
+use Rattle.planning.proofs.Exact.{rank-list-not-9}
+use Rattle.planning.proofs.Alike.{barred-alike}
+use Rattle.demands.specs.Words.{LoadsAs, RanksFor}
+
+-- there is no straight plan, and neither file nor ranks are at fault: 10, 11 or 12
+abbrev pub NoPlanCanBe : Answer → Type 0
+NoPlanCanBe r = (10 ≤ r .number) × (r .number ≤ 12)
+
+said-alike :
+    (said : Said) → LawfulIfSaid said → (ranks before : List ℕ) (r : Answer) (after : List ℕ) → PlansFile said ranks before r after → NoPlanCanBe r
+    → (ranks′ before′ : List ℕ) (r′ : Answer) (after′ : List ℕ) → PlansFile said ranks′ before′ r′ after′ → (r′ .number ≡ 9) ⊎ (r′ ≡ r)
+said-alike (says t) lawful ranks before r after p h ranks′ before′ r′ after′ q = barred-alike lawful p q h
+said-alike (refused number place) lawful ranks before r after p h ranks′ before′ r′ after′ q = inr (q .0 ∙ sym (p .0))
+
+said-seeded-alike :
+    (said : Said) → LawfulIfSaid said → (ranks before : List ℕ) (r : Answer) (after : List ℕ) → PlansFile said ranks before r after → NoPlanCanBe r
+    → (before′ : List ℕ) (r′ : Answer) (after′ : List ℕ) → PlansSeeded said before′ r′ after′ → r′ ≡ r
+said-seeded-alike (says t) lawful ranks before r after p h before′ r′ after′ q = from (barred-alike lawful p q h)
+  where
+    from : (r′ .number ≡ 9) ⊎ (r′ ≡ r) → r′ ≡ r
+    from (inl nine) = absurd (rank-list-not-9 (drawn-is-rank-list (t .seed) (length (t .actions))) q nine)
+    from (inr e) = e
+said-seeded-alike (refused number place) lawful ranks before r after p h before′ r′ after′ q = q .0 ∙ sym (p .0)
+
+-- ---- the theorems: a file was planned with some ranks into some buffer, and answered 10, 11 or 12
+
+module _ (file ranks before : List ℕ) (r : Answer) (after : List ℕ) (allowed : PlanAllows file ranks before r after) (none : NoPlanCanBe r) where
+  -- with any other ranks and buffer the answer is the same, or 9 where those ranks are at fault
+  pub refused-alike :
+      (ranks′ before′ : List ℕ) (r′ : Answer) (after′ : List ℕ) → PlanAllows file ranks′ before′ r′ after′ → (r′ .number ≡ 9) ⊎ (r′ ≡ r)
+  refused-alike = said-alike (reading file) (reading-lawful file) ranks before r after allowed none
+
+  pub refused-alike-with-any-rank-list :
+      (t : Study) → LoadsAs file t → (ranks′ before′ : List ℕ) (r′ : Answer) (after′ : List ℕ) → RanksFor t ranks′
+      → PlanAllows file ranks′ before′ r′ after′ → r′ ≡ r
+  refused-alike-with-any-rank-list t loads ranks′ before′ r′ after′ rank-list q = from (refused-alike ranks′ before′ r′ after′ q)
+    where
+      from : (r′ .number ≡ 9) ⊎ (r′ ≡ r) → r′ ≡ r
+      from (inl nine) = absurd (rank-list-not-9 rank-list (rw loads at q) nine)
+      from (inr e) = e
+
+  pub refused-alike-with-the-seed : (before′ : List ℕ) (r′ : Answer) (after′ : List ℕ) → SeededAllows file before′ r′ after′ → r′ ≡ r
+  refused-alike-with-the-seed = said-seeded-alike (reading file) (reading-lawful file) ranks before r after allowed none
