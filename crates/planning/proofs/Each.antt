@@ -34,13 +34,10 @@ first-plan-returned {t} {ranks} {list} {before} lawful rank-list first room p = 
     from (planned fine p (short l)) = absurd (omega (arith, ap length (first-plan-determined rank-list p first)))
     from (planned fine p (fits l)) = let e = first-plan-determined rank-list p first in rw e (refl, refl)
 
-pub each-straight-plan-returned :
-    {t : Study} {list : List ℕ} → Lawful t → StraightPlan t list
-    → (ranks : List ℕ) × (RankList (length (t .actions)) ranks
-    × ((before after : List ℕ) (r : Answer) → length list ≤ length before → Plans t ranks before r after
-    → (r ≡ done (length list) 0) × (after ≡ list ++ drop (length list) before)))
-each-straight-plan-returned {t} {list} lawful straight =
-    (given .ranks, (given .rank-list, λ before after r room p. first-plan-returned lawful (given .rank-list) first room p))
+-- each straight plan is first under some rank list
+pub each-straight-plan-first :
+    {t : Study} {list : List ℕ} → Lawful t → StraightPlan t list → (ranks : List ℕ) × (RankList (length (t .actions)) ranks × FirstPlan t ranks list)
+each-straight-plan-first {t} {list} lawful straight = (given .ranks, (given .rank-list, first))
   where
     given : Returned (OnAWalk t) (ComesBefore t) (length (t .actions)) list
     given = each-order-returned (OnAWalk t) (ComesBefore t) (length (t .actions)) (λ x o. on-walk-usable o) list (straight-is-order lawful straight)
@@ -49,3 +46,12 @@ each-straight-plan-returned {t} {list} lawful straight =
     first =
         greedy-is-first-plan lawful (straight-walks lawful straight) (straight-met lawful straight) (given .rank-list) (given .taken)
         (order-has-all (OnAWalk t) (ComesBefore t) list (straight-is-order lawful straight))
+
+pub each-straight-plan-returned :
+    {t : Study} {list : List ℕ} → Lawful t → StraightPlan t list
+    → (ranks : List ℕ) × (RankList (length (t .actions)) ranks
+    × ((before after : List ℕ) (r : Answer) → length list ≤ length before → Plans t ranks before r after
+    → (r ≡ done (length list) 0) × (after ≡ list ++ drop (length list) before)))
+each-straight-plan-returned lawful straight =
+    let (ranks, (rank-list, first)) = each-straight-plan-first lawful straight in
+    (ranks, (rank-list, λ before after r room p. first-plan-returned lawful rank-list first room p))
