@@ -9,11 +9,11 @@ use Rattle.answer.specs.declared.Answer.{Answer}
 use Rattle.answer.specs.Answers.{done}
 use Rattle.answer.specs.Allowing.{Exactly, RefusalAltersNothing}
 use Rattle.study.specs.Reading.{Said, says, refused, reading}
-use Rattle.draw.specs.Draw.{drawn, drawnLast, answerBy, bytesBy, DrawAllows}
+use Rattle.draw.specs.Draw.{drawnLast, answerBy, bytesBy, DrawAllows}
 use Rattle.draw.specs.Draw.{refused as notDrawn}
 use Rattle.runs.specs.Run.{Ran, endsIn, stops, ran, runAnswer, runLeaves, RunAllows}
 use Rattle.planning.specs.Planning.{PlansFile, PlanAllows}
-use Rattle.planning.specs.Seeded.{ownRanks, PlansSeeded, SeededAllows}
+use Rattle.planning.specs.Seeded.{PlansSeeded, SeededAllows}
 use Rattle.planning.proofs.Exact.{refusal-alters-nothing}
 
 said-unaltered : (said : Said) (ranks before : List ℕ) → RefusalAltersNothing (PlansFile said ranks before) before

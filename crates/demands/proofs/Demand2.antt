@@ -3,8 +3,8 @@
 use Prim.Native.Nat.{ℕ, _≤_}
 use native.Mathlib.Omega.{arith}
 use mathlib.Core.Path.{_≡_, refl, ap, _∙_}
-use mathlib.Core.List.{List, _++_}
-use lib.ListN.{length, take, drop}
+use mathlib.Core.List.{List}
+use lib.ListN.{length, take}
 use lib.Seq.{take-at}
 use Rattle.answer.specs.declared.Answer.{Answer}
 use Rattle.answer.specs.Answers.{done}
@@ -16,7 +16,7 @@ use Rattle.lawful.proofs.Loads.{loads-lawful}
 use Rattle.plans.specs.Plans.{startState, Reached, StraightPlan}
 use Rattle.plans.proofs.States.{start-length}
 use Rattle.plans.proofs.Running.{runs-length}
-use Rattle.runs.specs.Run.{runLeaves, RunAllows}
+use Rattle.runs.specs.Run.{RunAllows}
 use Rattle.runs.proofs.Answers.{straight-ends, straight-answer}
 use Rattle.planning.specs.Planning.{PlansFile, PlanAllows}
 use Rattle.planning.specs.Seeded.{PlansSeeded, SeededAllows}

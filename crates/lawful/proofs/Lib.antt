@@ -4,3 +4,4 @@ pub mod Grown
 pub mod Sound
 pub mod Loads
 pub mod Conditions
+pub mod Lengths

@@ -1,4 +1,4 @@
--- Each straight plan is the one returned, for some rank list.
+-- With a rank list and room the first plan is what is returned, and each straight plan is the first for some rank list.
 -- Assumes nothing.
 use Prim.Native.Nat.{ℕ, _≤_}
 use native.Mathlib.Omega.{arith}
@@ -46,12 +46,3 @@ each-straight-plan-first {t} {list} lawful straight = (given .ranks, (given .ran
     first =
         greedy-is-first-plan lawful (straight-walks lawful straight) (straight-met lawful straight) (given .rank-list) (given .taken)
         (order-has-all (OnAWalk t) (ComesBefore t) list (straight-is-order lawful straight))
-
-pub each-straight-plan-returned :
-    {t : Study} {list : List ℕ} → Lawful t → StraightPlan t list
-    → (ranks : List ℕ) × (RankList (length (t .actions)) ranks
-    × ((before after : List ℕ) (r : Answer) → length list ≤ length before → Plans t ranks before r after
-    → (r ≡ done (length list) 0) × (after ≡ list ++ drop (length list) before)))
-each-straight-plan-returned lawful straight =
-    let (ranks, (rank-list, first)) = each-straight-plan-first lawful straight in
-    (ranks, (rank-list, λ before after r room p. first-plan-returned lawful rank-list first room p))
