@@ -8,6 +8,8 @@ use native.Mathlib.Nat.{le-of-suc-le-suc, not-suc-le-zero}
 use native.Mathlib.Omega.{arith}
 use native.Mathlib.Decide.{ℕ-discrete}
 use lib.ListN.{length, getD, take}
+use Rattle.ranks.specs.Ranks.{rising}
+use Rattle.ranks.proofs.Laws.{length-rising, getD-rising}
 use Rattle.orders.specs.Orders.{In, Distinct, Counted}
 
 -- ---- what is in a list
@@ -97,6 +99,22 @@ distinct-within [] ys d f = omega arith
 distinct-within (x ∷ xs) ys d f =
     let w = taken-out x ys (f x (inl refl)) in
     omega (arith, w .one-less, distinct-within xs (w .rest) (d .1) (λ y h. w .others y (λ e. d .0 (rw e at h)) (f y (inr h))))
+
+-- ---- the numbers below n
+
+pub below-in : (n y : ℕ) → y < n → In y (rising n)
+below-in n y h = rw (getD-rising n y h) at (entry-in (rising n) y (omega (arith, length-rising n)))
+
+pub in-below : (n y : ℕ) → In y (rising n) → y < n
+in-below n y h =
+    let (i, (l, e)) = in-has-place y (rising n) h in
+    let b : i < n = omega (arith, length-rising n) in
+    omega (arith, getD-rising n i b)
+
+pub distinct-below : (xs : List ℕ) (n : ℕ) → Distinct xs → ((x : ℕ) → In x xs → x < n) → length xs ≤ n
+distinct-below xs n d small = omega (arith, length-rising n, distinct-within xs (rising n) d (λ x h. below-in n x (small x h)))
+
+-- ---- two lists without repeats
 
 pub distinct-same-length :
     (xs ys : List ℕ) → Distinct xs → Distinct ys → ((x : ℕ) → In x xs → In x ys) → ((x : ℕ) → In x ys → In x xs)

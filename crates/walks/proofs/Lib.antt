@@ -6,3 +6,5 @@ pub mod Steps
 pub mod Ordered
 pub mod Along
 pub mod Straight
+pub mod Traces
+pub mod Next

@@ -13,12 +13,13 @@ use Rattle.answer.specs.declared.Answer.{Answer}
 use Rattle.study.specs.Study.{Condition, Study}
 use Rattle.lawful.specs.Lawful.{Lawful}
 use Rattle.walks.specs.Walks.{conditionsOf, Walk, OnAWalk, ValueOnWalk, Wants, Walks, Met}
+use Rattle.walks.specs.Traces.{walkOf}
 use Rattle.walks.proofs.Leads.{on-walk-usable}
 use Rattle.walks.proofs.Wanted.{wanted-there}
+use Rattle.walks.proofs.Traces.{WalkOf, found, none-there, walk-of-tells}
 use Rattle.planning.specs.Planning.{LowestWithout, LowestOff}
 use Rattle.worked.proofs.Tests.{Says, holds, fails, settled, says-same, says-equal, says-not, says-both, says-either}
 use Rattle.worked.proofs.Searching.{lowest, Lowest, is-lowest, is-nowhere, lowest-tells}
-use Rattle.worked.proofs.Tracing.{walkOf, Traced, found, none-there, trace-tells}
 use Rattle.worked.proofs.Meeting.{isNone, onWalk, valueOn, says-on-walk, says-value-on, says-no-walk}
 
 -- among the conditions is one on u whose value is off u's walk
@@ -117,9 +118,9 @@ module _ {t : Study} (lawful : Lawful t) where
   bar-tells = go (lowest-tells (says-no-walk lawful) (length (t .tasks))) off-action-tells
     where
       has-walk : (v : ℕ) → (((w : List ℕ) → Walk t v w → ⊥) → ⊥) → (w : List ℕ) × Walk t v w
-      has-walk v n = from (trace-tells lawful v)
+      has-walk v n = from (walk-of-tells lawful v)
         where
-          from : {o : Option (List ℕ)} → Traced t v o → (w : List ℕ) × Walk t v w
+          from : {o : Option (List ℕ)} → WalkOf t v o → (w : List ℕ) × Walk t v w
           from (found {w = w} walk) = (w, walk)
           from (none-there m) = absurd (n m)
 

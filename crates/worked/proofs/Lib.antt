@@ -1,6 +1,5 @@
 pub mod Tests
 pub mod Searching
-pub mod Tracing
 pub mod Meeting
 pub mod Barring
 pub mod Choosing

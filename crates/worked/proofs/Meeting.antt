@@ -12,12 +12,14 @@ use Rattle.study.specs.Study.{Condition, Study}
 use Rattle.lawful.specs.Lawful.{Lawful}
 use Rattle.ranks.specs.Ranks.{rising}
 use Rattle.orders.specs.Orders.{In}
+use Rattle.orders.proofs.Lists.{below-in}
 use Rattle.walks.specs.Walks.{varOf, preOf, postOf, conditionsOf, startOf, Walk, OnAWalk, ValueOnWalk, Wants, ComesBefore, next, sets, leaves}
+use Rattle.walks.specs.Traces.{walkOf}
 use Rattle.walks.proofs.Leads.{on-walk-usable}
 use Rattle.walks.proofs.Unique.{walk-unique}
+use Rattle.walks.proofs.Traces.{WalkOf, found, none-there, walk-of-tells}
 use Rattle.worked.proofs.Tests.{Says, holds, fails, says-same, says-equal, says-below, says-both, says-either, among, any, says-among, says-any}
-use Rattle.worked.proofs.Searching.{passing, in-passing, passing-in, below-in}
-use Rattle.worked.proofs.Tracing.{walkOf, Traced, found, none-there, trace-tells}
+use Rattle.worked.proofs.Searching.{passing, in-passing, passing-in}
 
 -- ---- comes before
 
@@ -88,27 +90,27 @@ module _ {t : Study} (lawful : Lawful t) where
       says-same
       (λ h. record { there = h .0; list = h .1 .0; walk = h .1 .1 .0; on = h .1 .1 .1 })
       (λ o. (o .there, (o .list, (o .walk, o .on))))
-      (says-both (says-below (varOf t i) (length (t .tasks))) (go (trace-tells lawful (varOf t i))))
+      (says-both (says-below (varOf t i) (length (t .tasks))) (go (walk-of-tells lawful (varOf t i))))
     where
-      go : {o : Option (List ℕ)} → Traced t (varOf t i) o → Says ((w : List ℕ) × (Walk t (varOf t i) w × In i w)) (onIt o i)
+      go : {o : Option (List ℕ)} → WalkOf t (varOf t i) o → Says ((w : List ℕ) × (Walk t (varOf t i) w × In i w)) (onIt o i)
       go (found {w = w} walk) =
           says-same (λ h. (w, (walk, h))) (λ h. rw (walk-unique lawful (h .1 .0) walk) at (h .1 .1)) (says-among i w)
       go (none-there n) = fails (λ h. n (h .0) (h .1 .0))
 
   pub says-value-on : (v q : ℕ) → Says (ValueOnWalk t v q) (valueOn t v q)
   unfolding valueOn
-  says-value-on v q = go (trace-tells lawful v)
+  says-value-on v q = go (walk-of-tells lawful v)
     where
-      go : {o : Option (List ℕ)} → Traced t v o → Says (ValueOnWalk t v q) (valueOnIt t v q o)
+      go : {o : Option (List ℕ)} → WalkOf t v o → Says (ValueOnWalk t v q) (valueOnIt t v q o)
       go (found {w = w} walk) =
           says-same (λ h. record { list = w; walk = walk; value = h }) (λ o. rw (walk-unique lawful (o .walk) walk) at (o .value))
           (says-either (says-equal q (startOf t v)) (says-any (λ i. says-equal (postOf t i) q) w))
       go (none-there n) = fails (λ o. n (o .list) (o .walk))
 
   pub says-no-walk : (v : ℕ) → Says ((w : List ℕ) → Walk t v w → ⊥) (isNone (walkOf t v))
-  says-no-walk v = go (trace-tells lawful v)
+  says-no-walk v = go (walk-of-tells lawful v)
     where
-      go : {o : Option (List ℕ)} → Traced t v o → Says ((w : List ℕ) → Walk t v w → ⊥) (isNone o)
+      go : {o : Option (List ℕ)} → WalkOf t v o → Says ((w : List ℕ) → Walk t v w → ⊥) (isNone o)
       go (found {w = w} walk) = fails (λ n. n w walk)
       go (none-there n) = holds n
 

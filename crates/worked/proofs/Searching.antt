@@ -10,9 +10,8 @@ use mathlib.Core.List.{List, [], _∷_}
 use lib.Dec.{leb}
 use Rattle.plain.specs.Choose.{pick}
 use Rattle.ranks.specs.Ranks.{rising}
-use Rattle.ranks.proofs.Laws.{length-rising, getD-rising}
 use Rattle.orders.specs.Orders.{In}
-use Rattle.orders.proofs.Lists.{entry-in, in-has-place}
+use Rattle.orders.proofs.Lists.{below-in, in-below}
 use Rattle.worked.proofs.Tests.{Says, holds, fails, says-at-most}
 
 unfoldable pub better : (ℕ → ℕ) → ℕ → Option ℕ → ℕ
@@ -33,15 +32,6 @@ passing test [] = []
 passing test (x ∷ rest) = pick (test x) (x ∷ passing test rest) (passing test rest)
 
 -- ---- what a search tells
-
-pub below-in : (n y : ℕ) → y < n → In y (rising n)
-below-in n y h = rw (getD-rising n y h) at (entry-in (rising n) y (omega (arith, length-rising n)))
-
-in-below : (n y : ℕ) → In y (rising n) → y < n
-in-below n y h =
-    let (i, (l, e)) = in-has-place y (rising n) h in
-    let b : i < n = omega (arith, length-rising n) in
-    omega (arith, getD-rising n i b)
 
 pub data Least (P : ℕ → Type 0) (rank : ℕ → ℕ) (xs : List ℕ) : Option ℕ → Type 0 where
   is-least : {x : ℕ} → In x xs → P x → ((y : ℕ) → In y xs → P y → rank x ≤ rank y) → Least P rank xs (some x)

@@ -9,12 +9,12 @@ use lib.ListN.{length, getD}
 use Rattle.records.specs.Records
 use Rattle.study.specs.Reading
 use Rattle.ranking.specs.Ranking
+use Rattle.walks.specs.Traces
 use Rattle.runs.specs.Run
 use Rattle.worked.specs.Table
 use Rattle.worked.specs.Table.{Row, straight-plans, Holds, table, rowAt}
 use Rattle.worked.proofs.Tests
 use Rattle.worked.proofs.Searching
-use Rattle.worked.proofs.Tracing
 use Rattle.worked.proofs.Meeting
 use Rattle.worked.proofs.Barring
 use Rattle.worked.proofs.Choosing
@@ -53,7 +53,7 @@ unfolding
     Reference.planned Reference.leftOut Reference.chosen Straights.straightPlans
     Barring.barred Barring.offAction Barring.offVariable Barring.lowestWithout Barring.wantsOff
     Meeting.onWalk Meeting.valueOn Meeting.comesBefore Meeting.wants Meeting.walkActions
-    Tracing.walkOf Tracing.traced Tracing.setterOf
+    Traces.walkOf Traces.trace Traces.tracedBack Traces.setterFrom
     Searching.lowest Searching.least Searching.better Searching.passing
     Choosing.ready Choosing.greedily Listing.orders Listing.startingWith
     Tests.among Tests.every Tests.any
