@@ -1,10 +1,4 @@
-pub mod Tests
-pub mod Searching
-pub mod Meeting
-pub mod Barring
-pub mod Choosing
 pub mod Listing
-pub mod Reference
 pub mod Straights
 pub mod Rows
 pub mod Worked

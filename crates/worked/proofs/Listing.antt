@@ -10,8 +10,8 @@ use lib.ListN.{length}
 use Rattle.plain.specs.Choose.{pick}
 use Rattle.orders.specs.Orders.{In, OrderFrom}
 use Rattle.worked.specs.Table.{OneOf}
-use Rattle.worked.proofs.Tests.{Says, holds, fails, among, every, says-among, says-every}
-use Rattle.worked.proofs.Choosing.{ready, says-ready}
+use Rattle.reference.proofs.Tests.{Says, holds, fails, among, every, says-among, says-every}
+use Rattle.reference.proofs.Choosing.{ready, says-ready}
 
 -- lists with one more in front
 abbrev pub eachAfter : ℕ → List (List ℕ) → List (List ℕ)

@@ -13,8 +13,8 @@ use Rattle.lawful.proofs.Loads.{reading-lawful}
 use Rattle.runs.specs.Run.{ran, runAnswer, runLeaves}
 use Rattle.planning.proofs.Determined.{file-plans-determined}
 use Rattle.worked.specs.Table.{Call, draw, plan, run, Allows, Row, answers, straight-plans, Holds}
-use Rattle.worked.proofs.Tests.{Says, so, says-same, says-equal, says-both, alike, says-alike}
-use Rattle.worked.proofs.Reference.{Outcome, gives, plannedFile, planned-file-allowed}
+use Rattle.reference.proofs.Tests.{Says, so, says-same, says-equal, says-both, alike, says-alike}
+use Rattle.reference.proofs.Reference.{Outcome, gives, plannedFile, planned-file-allowed}
 use Rattle.worked.proofs.Straights.{straightPlansIn, straight-plans-in-file}
 
 -- ---- tests that two are equal

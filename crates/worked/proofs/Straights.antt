@@ -19,8 +19,8 @@ use Rattle.walks.proofs.Ordered.{straight-is-order}
 use Rattle.walks.proofs.Straight.{order-is-straight}
 use Rattle.planning.proofs.Bars.{without-bars-plans, off-bars-plans}
 use Rattle.worked.specs.Table.{StraightIn, OneOf}
-use Rattle.worked.proofs.Meeting.{comesBefore, says-comes-before, walkActions, walk-action-in, in-walk-actions}
-use Rattle.worked.proofs.Barring.{barred, Bar, lacks-walk, off-its-walk, no-bar, bar-tells}
+use Rattle.reference.proofs.Meeting.{comesBefore, says-comes-before, walkActions, walk-action-in, in-walk-actions}
+use Rattle.reference.proofs.Barring.{barred, Bar, lacks-walk, off-its-walk, no-bar, bar-tells}
 use Rattle.worked.proofs.Listing.{orders, order-listed, listed-is-order}
 
 abbrev pub noneIfBarred : Option Answer → List (List ℕ) → List (List ℕ)

@@ -13,13 +13,13 @@ use Rattle.walks.specs.Traces
 use Rattle.runs.specs.Run
 use Rattle.worked.specs.Table
 use Rattle.worked.specs.Table.{Row, straight-plans, Holds, table, rowAt}
-use Rattle.worked.proofs.Tests
-use Rattle.worked.proofs.Searching
-use Rattle.worked.proofs.Meeting
-use Rattle.worked.proofs.Barring
-use Rattle.worked.proofs.Choosing
+use Rattle.reference.proofs.Tests
+use Rattle.reference.proofs.Searching
+use Rattle.reference.proofs.Meeting
+use Rattle.reference.proofs.Barring
+use Rattle.reference.proofs.Choosing
 use Rattle.worked.proofs.Listing
-use Rattle.worked.proofs.Reference
+use Rattle.reference.proofs.Reference
 use Rattle.worked.proofs.Straights
 use Rattle.worked.proofs.Rows
 use Rattle.worked.proofs.Rows.{test, test-holds}

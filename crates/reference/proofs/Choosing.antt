@@ -9,8 +9,8 @@ use mathlib.Core.List.{List, [], _∷_}
 use lib.ListN.{length}
 use Rattle.orders.specs.Orders.{In, Distinct, Ready, Greedy}
 use Rattle.orders.proofs.Lists.{distinct-fills}
-use Rattle.worked.proofs.Tests.{Says, says-same, says-not, says-both, says-then, among, every, says-among, says-every}
-use Rattle.worked.proofs.Searching.{least, Least, is-least, is-none, least-tells}
+use Rattle.reference.proofs.Tests.{Says, says-same, says-not, says-both, says-then, among, every, says-among, says-every}
+use Rattle.reference.proofs.Searching.{least, Least, is-least, is-none, least-tells}
 
 -- a member not yet taken, while all that comes before it is
 unfoldable pub ready : (ℕ → ℕ → Bool) → List ℕ → List ℕ → ℕ → Bool

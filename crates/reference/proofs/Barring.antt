@@ -18,9 +18,9 @@ use Rattle.walks.proofs.Leads.{on-walk-usable}
 use Rattle.walks.proofs.Wanted.{wanted-there}
 use Rattle.walks.proofs.Traces.{WalkOf, found, none-there, walk-of-tells}
 use Rattle.planning.specs.Planning.{LowestWithout, LowestOff}
-use Rattle.worked.proofs.Tests.{Says, holds, fails, settled, says-same, says-equal, says-not, says-both, says-either}
-use Rattle.worked.proofs.Searching.{lowest, Lowest, is-lowest, is-nowhere, lowest-tells}
-use Rattle.worked.proofs.Meeting.{isNone, onWalk, valueOn, says-on-walk, says-value-on, says-no-walk}
+use Rattle.reference.proofs.Tests.{Says, holds, fails, settled, says-same, says-equal, says-not, says-both, says-either}
+use Rattle.reference.proofs.Searching.{lowest, Lowest, is-lowest, is-nowhere, lowest-tells}
+use Rattle.reference.proofs.Meeting.{isNone, onWalk, valueOn, says-on-walk, says-value-on, says-no-walk}
 
 -- among the conditions is one on u whose value is off u's walk
 unfoldable pub wantsOff : Study → List Condition → ℕ → Bool

@@ -12,7 +12,7 @@ use Rattle.plain.specs.Choose.{pick}
 use Rattle.ranks.specs.Ranks.{rising}
 use Rattle.orders.specs.Orders.{In}
 use Rattle.orders.proofs.Lists.{below-in, in-below}
-use Rattle.worked.proofs.Tests.{Says, holds, fails, says-at-most}
+use Rattle.reference.proofs.Tests.{Says, holds, fails, says-at-most}
 
 unfoldable pub better : (ℕ → ℕ) → ℕ → Option ℕ → ℕ
 better rank x none = x

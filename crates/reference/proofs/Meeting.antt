@@ -18,8 +18,8 @@ use Rattle.walks.specs.Traces.{walkOf}
 use Rattle.walks.proofs.Leads.{on-walk-usable}
 use Rattle.walks.proofs.Unique.{walk-unique}
 use Rattle.walks.proofs.Traces.{WalkOf, found, none-there, walk-of-tells}
-use Rattle.worked.proofs.Tests.{Says, holds, fails, says-same, says-equal, says-below, says-both, says-either, among, any, says-among, says-any}
-use Rattle.worked.proofs.Searching.{passing, in-passing, passing-in}
+use Rattle.reference.proofs.Tests.{Says, holds, fails, says-same, says-equal, says-below, says-both, says-either, among, any, says-among, says-any}
+use Rattle.reference.proofs.Searching.{passing, in-passing, passing-in}
 
 -- ---- comes before
 

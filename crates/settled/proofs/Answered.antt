@@ -1,0 +1,45 @@
+-- For each public call: on every input its contract allows some result, so that what is proved of all results is not proved of nothing.
+-- Assumes nothing.
+use mathlib.Core.Path.{refl}
+use mathlib.Core.List.{List}
+use Prim.Native.Nat.{ℕ}
+use lib.ListN.{length}
+use Rattle.answer.specs.declared.Answer.{Answer}
+use Rattle.answer.specs.Allowing.{Exactly, Answers, AnswersOne}
+use Rattle.records.specs.Records.{recordAt}
+use Rattle.study.specs.Reading.{reading}
+use Rattle.lawful.proofs.Loads.{reading-lawful}
+use Rattle.checker.specs.Check.{checkAnswer, CheckAllows}
+use Rattle.draw.specs.Draw.{drawAnswer, drawLeaves, DrawAllows}
+use Rattle.runs.specs.Run.{ran, runAnswer, runLeaves, RunAllows}
+use Rattle.planning.specs.Planning.{PlanAllows}
+use Rattle.planning.specs.Seeded.{SeededAllows}
+use Rattle.reference.proofs.Reference.{plannedFile, plannedSeeded, planned-file-allowed, planned-seeded-allowed}
+use Rattle.marrowkite.specs.Told.{told, RecordAllows}
+
+-- what is given by equations is allowed
+exactly-answers : (answer : Answer) (bytes : List ℕ) → Answers (Exactly answer bytes)
+exactly-answers answer bytes = record { answer = answer; bytes = bytes; allowed = (refl, refl) }
+
+pub check-answered : (file : List ℕ) → AnswersOne (CheckAllows file)
+check-answered file = record { answer = checkAnswer (reading file); allowed = refl }
+
+pub record-answered : (file : List ℕ) (at : ℕ) → AnswersOne (RecordAllows file at)
+record-answered file at = record { answer = told (recordAt file at); allowed = refl }
+
+pub draw-answered : (seed count : ℕ) (before : List ℕ) → Answers (DrawAllows seed count before)
+draw-answered seed count before = exactly-answers (drawAnswer seed count (length before)) (drawLeaves seed count before)
+
+pub run-answered : (file list before : List ℕ) → Answers (RunAllows file list before)
+run-answered file list before =
+    exactly-answers (runAnswer (ran (reading file) (length before) list)) (runLeaves (ran (reading file) (length before) list) before)
+
+pub plan-answered : (file ranks before : List ℕ) → Answers (PlanAllows file ranks before)
+plan-answered file ranks before =
+    let given = plannedFile (reading file) ranks before in
+    record { answer = given .answer; bytes = given .bytes; allowed = planned-file-allowed (reading file) (reading-lawful file) ranks before }
+
+pub seeded-answered : (file before : List ℕ) → Answers (SeededAllows file before)
+seeded-answered file before =
+    let given = plannedSeeded (reading file) before in
+    record { answer = given .answer; bytes = given .bytes; allowed = planned-seeded-allowed (reading file) (reading-lawful file) before }
