@@ -3,3 +3,4 @@ pub mod Placed
 pub mod Shown
 pub mod Planned
 pub mod Once
+pub mod Cut
