@@ -6,7 +6,9 @@ use mathlib.Core.List.{List}
 use Prim.Native.Nat.{ℕ}
 use Rattle.answer.specs.declared.Answer.{Answer}
 
--- answers and bytes of a call that lends a buffer
+-- ---- a call that lends a buffer
+
+-- answers and bytes
 abbrev pub Allowing : Type 1
 Allowing = Answer → List ℕ → Type 0
 
@@ -33,10 +35,13 @@ pub record AllowsOnly (allows : Allowing) (answer : Answer) (bytes : List ℕ) :
 abbrev pub RefusalAltersNothing : Allowing → List ℕ → Type 0
 RefusalAltersNothing allows before = (r : Answer) (after : List ℕ) → allows r after → r .number ≢ 0 → after ≡ before
 
--- the same of a call that lends no buffer, whatever it returns
+-- ---- a call that lends no buffer, whatever it returns
+
+-- two results that are allowed are equal
 abbrev pub SettlesOne : {A : Type 0} → (A → Type 0) → Type 0
 SettlesOne {A} allows = (r r′ : A) → allows r → allows r′ → r ≡ r′
 
+-- some result is allowed
 pub record AnswersOne {A : Type 0} (allows : A → Type 0) : Type 0 where
   pub answer : A
   pub allowed : allows answer

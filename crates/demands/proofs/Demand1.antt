@@ -13,16 +13,12 @@ use Rattle.draw.specs.Draw.{drawnLast, answerBy, bytesBy, DrawAllows}
 use Rattle.draw.specs.Draw.{refused as notDrawn}
 use Rattle.runs.specs.Run.{Ran, endsIn, stops, ran, runAnswer, runLeaves, RunAllows}
 use Rattle.planning.specs.Planning.{PlansFile, PlanAllows}
-use Rattle.planning.specs.Seeded.{PlansSeeded, SeededAllows}
+use Rattle.planning.specs.Seeded.{seedRanks, SeededAllows}
 use Rattle.planning.proofs.Exact.{refusal-alters-nothing}
 
 said-unaltered : (said : Said) (ranks before : List ℕ) → RefusalAltersNothing (PlansFile said ranks before) before
 said-unaltered (says t) ranks before r after p h = refusal-alters-nothing p h
 said-unaltered (refused number place) ranks before r after p h = p .1
-
-seeded-unaltered : (said : Said) (before : List ℕ) → RefusalAltersNothing (PlansSeeded said before) before
-seeded-unaltered (says t) before r after p h = refusal-alters-nothing p h
-seeded-unaltered (refused number place) before r after p h = p .1
 
 run-unaltered : (outcome : Ran) (before : List ℕ) → RefusalAltersNothing (Exactly (runAnswer outcome) (runLeaves outcome before)) before
 run-unaltered (endsIn s) before r after p h = absurd (h (ap (λ (a : Answer). a .number) (p .0)))
@@ -40,7 +36,7 @@ pub refused-plan-alters-nothing : (file ranks before : List ℕ) → RefusalAlte
 refused-plan-alters-nothing file = said-unaltered (reading file)
 
 pub refused-seeded-plan-alters-nothing : (file before : List ℕ) → RefusalAltersNothing (SeededAllows file before) before
-refused-seeded-plan-alters-nothing file = seeded-unaltered (reading file)
+refused-seeded-plan-alters-nothing file = refused-plan-alters-nothing file (seedRanks (reading file))
 
 pub refused-run-alters-nothing : (file list before : List ℕ) → RefusalAltersNothing (RunAllows file list before) before
 refused-run-alters-nothing file list before = run-unaltered (ran (reading file) (length before) list) before

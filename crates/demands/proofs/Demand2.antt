@@ -19,7 +19,7 @@ use Rattle.plans.proofs.Running.{runs-length}
 use Rattle.runs.specs.Run.{RunAllows}
 use Rattle.runs.proofs.Answers.{straight-ends, straight-answer}
 use Rattle.planning.specs.Planning.{PlansFile, PlanAllows}
-use Rattle.planning.specs.Seeded.{PlansSeeded, SeededAllows}
+use Rattle.planning.specs.Seeded.{seedRanks, SeededAllows}
 use Rattle.planning.proofs.Exact.{answer-0-is-first}
 use Rattle.demands.specs.Words.{LoadsAs}
 
@@ -58,12 +58,6 @@ said-left :
 said-left file (says t) e n ranks before r after p z = record { study = t; loads = e; straight = answer-0-is-first p z .straight }
 said-left file (refused number place) e n ranks before r after p z = absurd (omega (arith, ap (λ (a : Answer). a .number) (p .0)))
 
-seeded-left :
-    (file : List ℕ) (said : Said) → reading file ≡ said → NumberedIfRefused said → (before : List ℕ) (r : Answer) (after : List ℕ)
-    → PlansSeeded said before r after → r .number ≡ 0 → Left file after r
-seeded-left file (says t) e n before r after p z = record { study = t; loads = e; straight = answer-0-is-first p z .straight }
-seeded-left file (refused number place) e n before r after p z = absurd (omega (arith, ap (λ (a : Answer). a .number) (p .0)))
-
 left-is-run :
     {file after : List ℕ} {r : Answer} → Left file after r
     → (state : List ℕ) → 32 ≤ length state
@@ -86,4 +80,4 @@ pub seeded-list-is-run :
     (file before : List ℕ) (r : Answer) (after : List ℕ) → SeededAllows file before r after → r .number ≡ 0
     → (state : List ℕ) → 32 ≤ length state
     → (answer : Answer) (left : List ℕ) → RunAllows file (take (r .first) after) state answer left → answer .number ≡ 0
-seeded-list-is-run file before r after p z = left-is-run (seeded-left file (reading file) refl (refusals-numbered file) before r after p z)
+seeded-list-is-run file = planned-list-is-run file (seedRanks (reading file))

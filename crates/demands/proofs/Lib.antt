@@ -1,5 +1,5 @@
 pub mod Demand1
-pub mod RefusedAlike
 pub mod Demand2
-pub mod Room
 pub mod Demand3
+pub mod Room
+pub mod RefusedAlike

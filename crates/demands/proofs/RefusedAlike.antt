@@ -4,17 +4,16 @@ use Prim.Native.Nat.{ℕ, _≤_}
 use mathlib.Core.Path.{_≡_, sym, _∙_}
 use mathlib.Core.Logic.{_⊎_, inl, inr}
 use mathlib.Core.List.{List}
-use lib.ListN.{length}
 use Rattle.answer.specs.declared.Answer.{Answer}
 use Rattle.study.specs.Study.{Study}
 use Rattle.study.specs.Reading.{Said, says, refused, reading}
 use Rattle.lawful.proofs.Loads.{LawfulIfSaid, reading-lawful}
-use Rattle.draw.proofs.Drawn.{drawn-is-rank-list}
 use Rattle.planning.specs.Planning.{PlansFile, PlanAllows}
-use Rattle.planning.specs.Seeded.{PlansSeeded, SeededAllows}
+use Rattle.planning.specs.Seeded.{seedRanks, SeededAllows}
 use Rattle.planning.proofs.Exact.{rank-list-not-9}
 use Rattle.planning.proofs.Alike.{barred-alike}
 use Rattle.demands.specs.Words.{LoadsAs, RanksFor}
+use Rattle.demands.proofs.Demand3.{seeded-never-answers-9}
 
 -- there is no straight plan, and neither file nor ranks are at fault: 10, 11 or 12
 abbrev pub NoPlanCanBe : Answer → Type 0
@@ -25,16 +24,6 @@ said-alike :
     → (ranks′ before′ : List ℕ) (r′ : Answer) (after′ : List ℕ) → PlansFile said ranks′ before′ r′ after′ → (r′ .number ≡ 9) ⊎ (r′ ≡ r)
 said-alike (says t) lawful ranks before r after p h ranks′ before′ r′ after′ q = barred-alike lawful p q h
 said-alike (refused number place) lawful ranks before r after p h ranks′ before′ r′ after′ q = inr (q .0 ∙ sym (p .0))
-
-said-seeded-alike :
-    (said : Said) → LawfulIfSaid said → (ranks before : List ℕ) (r : Answer) (after : List ℕ) → PlansFile said ranks before r after → NoPlanCanBe r
-    → (before′ : List ℕ) (r′ : Answer) (after′ : List ℕ) → PlansSeeded said before′ r′ after′ → r′ ≡ r
-said-seeded-alike (says t) lawful ranks before r after p h before′ r′ after′ q = from (barred-alike lawful p q h)
-  where
-    from : (r′ .number ≡ 9) ⊎ (r′ ≡ r) → r′ ≡ r
-    from (inl nine) = absurd (rank-list-not-9 (drawn-is-rank-list (t .seed) (length (t .actions))) q nine)
-    from (inr e) = e
-said-seeded-alike (refused number place) lawful ranks before r after p h before′ r′ after′ q = q .0 ∙ sym (p .0)
 
 -- ---- the theorems: a file was planned with some ranks into some buffer, and answered 10, 11 or 12
 
@@ -54,4 +43,8 @@ module _ (file ranks before : List ℕ) (r : Answer) (after : List ℕ) (allowed
       from (inr e) = e
 
   pub refused-alike-with-the-seed : (before′ : List ℕ) (r′ : Answer) (after′ : List ℕ) → SeededAllows file before′ r′ after′ → r′ ≡ r
-  refused-alike-with-the-seed = said-seeded-alike (reading file) (reading-lawful file) ranks before r after allowed none
+  refused-alike-with-the-seed before′ r′ after′ q = from (refused-alike (seedRanks (reading file)) before′ r′ after′ q)
+    where
+      from : (r′ .number ≡ 9) ⊎ (r′ ≡ r) → r′ ≡ r
+      from (inl nine) = absurd (seeded-never-answers-9 file before′ r′ after′ q nine)
+      from (inr e) = e

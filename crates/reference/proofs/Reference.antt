@@ -22,7 +22,6 @@ use Rattle.lawful.proofs.Loads.{LawfulIfSaid}
 use Rattle.orders.specs.Orders.{In, None, Greedy}
 use Rattle.walks.specs.Walks.{OnAWalk, ComesBefore, Walks, Met}
 use Rattle.planning.specs.Planning.{rankIn, FirstPlan, Plans, wrong-length, wrong-entry, no-walk, off-walk, ring, no-room, a-plan, PlansFile}
-use Rattle.planning.specs.Seeded.{ownRanks, PlansSeeded}
 use Rattle.planning.proofs.Found.{greedy-is-first-plan, greedy-stuck}
 use Rattle.reference.proofs.Tests.{Says, holds, fails, settled, says-not, says-below, among, says-among}
 use Rattle.reference.proofs.Searching.{least, Least, is-least, is-none, least-tells}
@@ -76,10 +75,6 @@ planned t ranks before =
 abbrev pub plannedFile : Said → List ℕ → List ℕ → Outcome
 plannedFile (says t) ranks before = planned t ranks before
 plannedFile (refused number place) ranks before = gives (refusal number place) before
-
-abbrev pub plannedSeeded : Said → List ℕ → Outcome
-plannedSeeded (says t) before = planned t (ownRanks t) before
-plannedSeeded (refused number place) before = gives (refusal number place) before
 
 -- ---- its answer is allowed
 
@@ -143,10 +138,3 @@ pub planned-file-allowed :
     → PlansFile said ranks before (plannedFile said ranks before .answer) (plannedFile said ranks before .bytes)
 planned-file-allowed (says t) lawful ranks before = planned-allowed lawful ranks before
 planned-file-allowed (refused number place) lawful ranks before = (refl, refl)
-
--- .. and with the file's own seed
-pub planned-seeded-allowed :
-    (said : Said) → LawfulIfSaid said → (before : List ℕ)
-    → PlansSeeded said before (plannedSeeded said before .answer) (plannedSeeded said before .bytes)
-planned-seeded-allowed (says t) lawful before = planned-allowed lawful (ownRanks t) before
-planned-seeded-allowed (refused number place) lawful before = (refl, refl)

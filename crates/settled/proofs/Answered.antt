@@ -13,8 +13,8 @@ use Rattle.checker.specs.Check.{checkAnswer, CheckAllows}
 use Rattle.draw.specs.Draw.{drawAnswer, drawLeaves, DrawAllows}
 use Rattle.runs.specs.Run.{ran, runAnswer, runLeaves, RunAllows}
 use Rattle.planning.specs.Planning.{PlanAllows}
-use Rattle.planning.specs.Seeded.{SeededAllows}
-use Rattle.reference.proofs.Reference.{plannedFile, plannedSeeded, planned-file-allowed, planned-seeded-allowed}
+use Rattle.planning.specs.Seeded.{seedRanks, SeededAllows}
+use Rattle.reference.proofs.Reference.{plannedFile, planned-file-allowed}
 use Rattle.marrowkite.specs.Told.{told, RecordAllows}
 
 -- what is given by equations is allowed
@@ -40,6 +40,4 @@ plan-answered file ranks before =
     record { answer = given .answer; bytes = given .bytes; allowed = planned-file-allowed (reading file) (reading-lawful file) ranks before }
 
 pub seeded-answered : (file before : List ℕ) → Answers (SeededAllows file before)
-seeded-answered file before =
-    let given = plannedSeeded (reading file) before in
-    record { answer = given .answer; bytes = given .bytes; allowed = planned-seeded-allowed (reading file) (reading-lawful file) before }
+seeded-answered file = plan-answered file (seedRanks (reading file))

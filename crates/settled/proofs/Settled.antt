@@ -1,19 +1,18 @@
 -- For each public call: two results that its contract allows on the same input are equal.
 -- Assumes nothing.
-use mathlib.Core.Path.{_≡_, refl, sym, _∙_}
+use mathlib.Core.Path.{sym, _∙_}
 use mathlib.Core.List.{List}
 use Prim.Native.Nat.{ℕ}
 use lib.ListN.{length}
 use Rattle.answer.specs.declared.Answer.{Answer}
 use Rattle.answer.specs.Allowing.{Exactly, Settles, SettlesOne}
-use Rattle.study.specs.Reading.{Said, says, refused, reading}
-use Rattle.lawful.proofs.Loads.{loads-lawful}
+use Rattle.study.specs.Reading.{reading}
 use Rattle.checker.specs.Check.{CheckAllows}
 use Rattle.draw.specs.Draw.{drawAnswer, drawLeaves, DrawAllows}
 use Rattle.runs.specs.Run.{ran, runAnswer, runLeaves, RunAllows}
 use Rattle.planning.specs.Planning.{PlanAllows}
-use Rattle.planning.specs.Seeded.{PlansSeeded, SeededAllows}
-use Rattle.planning.proofs.Determined.{plans-determined, file-plans-determined}
+use Rattle.planning.specs.Seeded.{seedRanks, SeededAllows}
+use Rattle.planning.proofs.Determined.{file-plans-determined}
 use Rattle.marrowkite.specs.Told.{RecordAllows}
 
 -- what is given by equations is settled
@@ -37,9 +36,4 @@ pub plan-settled : (file ranks before : List ℕ) → Settles (PlanAllows file r
 plan-settled file ranks before r r′ after after′ p q = file-plans-determined file ranks before p q
 
 pub seeded-settled : (file before : List ℕ) → Settles (SeededAllows file before)
-seeded-settled file before r r′ after after′ = by (reading file) refl
-  where
-    by :
-        (said : Said) → reading file ≡ said → PlansSeeded said before r after → PlansSeeded said before r′ after′ → (r ≡ r′) × (after ≡ after′)
-    by (says t) e p q = plans-determined (loads-lawful file t e) p q
-    by (refused number place) e p q = (p .0 ∙ sym (q .0), p .1 ∙ sym (q .1))
+seeded-settled file = plan-settled file (seedRanks (reading file))
