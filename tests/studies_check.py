@@ -1,12 +1,13 @@
 """Checks studies/: each NAME.bin is what bin/make-study makes of NAME.study, and each NAME.out what the oracle says that the
-program prints for NAME.bin; and bin/make-study itself: its mistakes, --allow-bad and --show. The last line is
-'N passed, M failed'.
+program prints for NAME.bin; each NAME.names has these lines with the table's words; and bin/make-study itself: its
+mistakes, --allow-bad, --names and --show. The last line is 'N passed, M failed'.
 
     python3 tests/studies_check.py             checks
-    python3 tests/studies_check.py --write     writes every NAME.bin and NAME.out anew, then checks
+    python3 tests/studies_check.py --write     writes every NAME.bin, NAME.out and NAME.names anew, then checks
 """
 
 import importlib.util
+import json
 import random
 import subprocess
 import sys
@@ -33,6 +34,9 @@ FIRST_LINES = {
     "ring": "refused 12 1 0",
     "longest": "plan 256",
 }
+
+# The studies whose plans are stored in words too.
+IN_WORDS = ["porter", "hotel"]
 
 HEAD = "variables\n  a: x, y\n  b: x, y, z\nactions\n"
 TAIL = "tasks\n  a x -> y\n  b x -> z\nseed 5\n"
@@ -84,6 +88,12 @@ BAD_TABLES = {
     HEAD + TAIL.replace("5", "0"): (5, 12, 0),
 }
 
+PORTER_NAMES = {
+    "variables": ["pass", "cart", "ride"],
+    "values": [["desk", "worn"], ["store", "lobby", "landing"], ["none", "booked"]],
+    "actions": ["take-pass", "fetch-cart", "ride-up", "book-ride", "return-pass"],
+}
+
 passed = failed = 0
 
 
@@ -124,15 +134,26 @@ def made(name):
     return command(STUDIES / f"{name}.study", "-o", "-").stdout
 
 
+def stored(name, suffix):
+    return (STUDIES / (name + suffix)).read_bytes()
+
+
+def in_words(name):
+    """What bin/plan --names prints for a study that has a plan: behind each step its action as the table has it, without the
+    conditions. It is taken from the table's lines and shares nothing with bin/make-study."""
+    part = stored(name, ".study").decode().split("\nactions\n")[1].split("\ntasks\n")[0]
+    actions = [" ".join(line.split(" when ")[0].split()) for line in part.splitlines() if line.strip()]
+    first, *steps = stored(name, ".out").decode().splitlines()
+    return "".join(f"{line}\n" for line in [first] + [f"{step}  {actions[int(step.split()[1])]}" for step in steps])
+
+
 def write_all():
     for name in FIRST_LINES:
         data = made(name)
         (STUDIES / f"{name}.bin").write_bytes(data)
         (STUDIES / f"{name}.out").write_text(oracle.printed(data))
-
-
-def stored(name, suffix):
-    return (STUDIES / (name + suffix)).read_bytes()
+    for name in IN_WORDS:
+        (STUDIES / f"{name}.names").write_text(in_words(name))
 
 
 def check_study(name, first_line):
@@ -143,10 +164,15 @@ def check_study(name, first_line):
     expect(oracle.check(data)[0][0] == 0, f"{name}.bin does not load")
 
 
+def check_words(name):
+    expect(stored(name, ".names").decode() == in_words(name), f"{name}.names is not {name}.out with the table's words")
+
+
 def check_folder():
     """Nothing is left over in the folder."""
     named = {name + suffix for name in FIRST_LINES for suffix in (".study", ".bin", ".out")} - {"longest.study"}
-    there = {path.name for path in STUDIES.iterdir() if path.suffix in (".study", ".bin", ".out")}
+    named |= {f"{name}.names" for name in IN_WORDS}
+    there = {path.name for path in STUDIES.iterdir() if path.suffix in (".study", ".bin", ".out", ".names")}
     expect(named == there, f"studies/ lacks {sorted(named - there)} or has {sorted(there - named)} too many")
 
 
@@ -225,6 +251,8 @@ def check_command():
         table, bad, file = Path(folder, "t.study"), Path(folder, "bad.study"), Path(folder, "t.bin")
         table.write_bytes(stored("porter", ".study"))
         expect(command(table).returncode == 0 and file.read_bytes() == oracle.PORTER, "the default target is not beside")
+        names = command(table, "-o", file, "--names", "-")
+        expect(names.returncode == 0 and json.loads(names.stdout) == PORTER_NAMES, f"--names says {names.stdout}")
         shown = command("--show", file)
         expect(shown.returncode == 0 and shown.stdout.startswith(b"variables\n  v0: 0, 1\n"), "--show")
         bad.write_text(HEAD + TAIL.replace("5", "0"))
@@ -247,6 +275,8 @@ def main():
         sys.exit("usage: python3 tests/studies_check.py [--write]")
     for name, first_line in FIRST_LINES.items():
         attempt(check_study, name, first_line)
+    for name in IN_WORDS:
+        attempt(check_words, name)
     attempt(check_folder)
     attempt(check_particulars)
     make_study = make_study_module()
