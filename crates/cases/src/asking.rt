@@ -1,0 +1,83 @@
+// Calls that write nothing.
+//
+//     check
+//     record AT           the record at a place, and its body
+//     records             each record, found by the reader behind the one before it, up to the end record or a refusal
+//     number STEPS SEED   the generator's number after so many steps
+use crate::show;
+use crate::words::begins;
+use crate::words::number;
+use records::Found;
+
+const END: u8 = 6;
+
+// Makes the call that the line names, if it is one of these, and answers whether it is.
+pub(crate) fn ask(line: &[u8], file: &[u8]) -> bool {
+    if begins(line, b"check") {
+        show::answers(checker::check(file));
+    } else if begins(line, b"record") {
+        record(file, number(line, 1) as usize);
+    } else if begins(line, b"records") {
+        records(file);
+    } else if begins(line, b"number") {
+        let last = number_after(number(line, 1), number(line, 2));
+        show::text_and_number(b" is", last as u64);
+    } else {
+        return false;
+    }
+    true
+}
+
+fn number_after(steps: u64, seed: u64) -> u32 {
+    let mut last = (seed % 4294967296) as u32;
+    let mut left = steps;
+    while 0 < left {
+        last = draw::next(last);
+        left -= 1;
+    }
+    last
+}
+
+fn record(file: &[u8], at: usize) {
+    found(records::record_at(file, at));
+    show::text_and_bytes(b" body", records::body(file, at));
+}
+
+// The answer number, the kind, the body's start and the place after it; a refusal has its place twice.
+fn found(found: Found) {
+    match found {
+        Found::There { kind, start, next } => numbers(0, kind, start, next),
+        Found::Unknown { place } => numbers(2, 0, place, place),
+        Found::Cut { kind: _, place } => numbers(1, 0, place, place),
+        Found::Ended { place } => numbers(1, 0, place, place),
+    }
+}
+
+fn numbers(number: u64, kind: u8, start: usize, next: usize) {
+    show::text_and_number(b" is", number);
+    show::number(kind as u64);
+    show::number(start as u64);
+    show::number(next as u64);
+}
+
+fn records(file: &[u8]) {
+    let mut at = 0usize;
+    let mut there = reader::record_from(file, 0);
+    loop {
+        found(there);
+        let Found::There {
+            kind,
+            start: _,
+            next,
+        } = there
+        else {
+            return;
+        };
+        show::text_and_bytes(b" body", records::body(file, at));
+        if kind == END {
+            return;
+        }
+        there = reader::record_after(file, at);
+        at = next;
+    }
+}

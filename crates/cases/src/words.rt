@@ -1,0 +1,106 @@
+// The words and arguments of a line, and parts of slices. What is not there is 0 or empty, and what does not fit is left out.
+ghost use Prim.Native.Nat.{_≤_, _<_};
+ghost use lib.ListN.{length};
+
+// Whether the line's first word is this one.
+pub(crate) fn begins(line: &[u8], word: &[u8]) -> bool {
+    let n = word.len();
+    if line.len() < n {
+        return false;
+    }
+    if n < line.len() {
+        if line[n] != b' ' {
+            return false;
+        }
+    }
+    check::same(&line[0..n], word)
+}
+
+// An argument that is a number.
+pub(crate) fn number(line: &[u8], k: usize) -> u64 {
+    let mut value = 0u64;
+    let mut left = behind(line, k);
+    while 0 < left {
+        let d = digit(line[line.len() - left]);
+        if 9 < d {
+            return value;
+        }
+        value = std::num::wrapping_add_u64(value % 1844674407370955162 * 10, d);
+        left -= 1;
+    }
+    value
+}
+
+// An argument that is bytes, the line's last, put into a slice at a place. Answers the place after them.
+pub(crate) fn bytes(line: &[u8], k: usize, into: &mut [u8], n: usize) -> usize {
+    let mut n = n;
+    let mut left = behind(line, k);
+    while 1 < left {
+        let i = line.len() - left;
+        let byte = 16 * digit(line[i]) + digit(line[i + 1]);
+        n = put(into, n, (byte % 256) as u8);
+        left -= 2;
+    }
+    n
+}
+
+// How many bytes the line has behind its k-th space.
+fn behind(line: &[u8], k: usize) -> usize
+    ensures { λ r. ⌜ r ≤ length (now (line .entry)) ⌝ }
+{
+    let mut spaces = k;
+    let mut left = line.len();
+    while 0 < left {
+        if spaces == 0 {
+            return left;
+        }
+        if line[line.len() - left] == b' ' {
+            spaces -= 1;
+        }
+        left -= 1;
+    }
+    0
+}
+
+// What a digit counts, or 255.
+fn digit(c: u8) -> u64
+    ensures { λ r. ⌜ r < 256 ⌝ }
+{
+    match c {
+        b'0'..=b'9' => (c - b'0') as u64,
+        b'a'..=b'f' => (c - b'a') as u64 + 10,
+        _ => 255,
+    }
+}
+
+fn put(into: &mut [u8], n: usize, byte: u8) -> usize {
+    if n < into.len() {
+        into[n] = byte;
+        return n + 1;
+    }
+    n
+}
+
+pub(crate) fn put_all(all: &[u8], into: &mut [u8], n: usize) -> usize {
+    let mut n = n;
+    let mut i = 0;
+    while i < all.len() {
+        n = put(into, n, all[i]);
+        i += 1;
+    }
+    n
+}
+
+pub(crate) fn front(s: &[u8], n: usize) -> &[u8] {
+    if s.len() < n {
+        return s;
+    }
+    &s[0..n]
+}
+
+pub(crate) fn back(s: &[u8], n: usize) -> &[u8] {
+    if s.len() < n {
+        return &s[..0];
+    }
+    &s[n..]
+}

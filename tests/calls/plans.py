@@ -1,0 +1,239 @@
+"""Planning: the oracle's answers, held against those that document 01 states."""
+
+import sys
+from dataclasses import replace
+
+from oracle import (
+    PORTER,
+    Action,
+    Study,
+    coming_round,
+    done,
+    drawn,
+    file_of,
+    goal_state,
+    horse_breeder,
+    may_be_done,
+    plan,
+    plan_seeded,
+    porter,
+    read,
+    start_state,
+    two_wanting,
+)
+
+RISING = bytes(range(5))
+
+
+def add_plan(book, file, ranks, room=12, says=None, leaves=None):
+    """A call more of the case that was begun."""
+    book.use(file)
+    made = "plan", lambda buffer: plan(file, bytes(ranks), buffer)
+    book.lend(made, bytes(ranks).hex(), room=room, says=says, leaves=leaves)
+
+
+def add_seeded(book, file, room=12):
+    book.use(file)
+    book.lend(("seeded", lambda buffer: plan_seeded(file, buffer)), room=room)
+
+
+def show_plan(book, name, file, ranks, room=12, says=None, leaves=None):
+    book.case(name)
+    add_plan(book, file, ranks, room, says, leaves)
+
+
+def show_seeded(book, name, file, room=12):
+    book.case(f"{name}, by the file's seed")
+    add_seeded(book, file, room)
+
+
+def case(book, name, file, ranks, numbers, steps=(), room=12):
+    """A case that document 01 works out."""
+    show_plan(book, name, file, ranks, room, numbers, steps)
+
+
+def to_goal(book, name, file, numbers, steps=()):
+    case(book, name, file, RISING, numbers, steps)
+    show_seeded(book, name, file)
+
+
+def worked(book):
+    case(book, "case 3", PORTER, RISING, (0, 4, 0), [0, 1, 3, 2])
+    case(book, "case 4", PORTER, [3, 0, 4, 1, 2], (0, 4, 0), [1, 0, 3, 2])
+    show_seeded(book, "case 4", PORTER)
+    to_goal(book, "case 5", porter((0, 0, 0)), (0, 0, 0))
+    to_goal(book, "case 6", porter((0, 2, 1)), (11, 2, 0))
+    to_goal(book, "case 7", porter((1, 2, 0)), (11, 2, 2))
+    to_goal(book, "case 8", porter((1, 1, 1)), (0, 3, 0), [0, 1, 3])
+    to_goal(book, "case 9", porter((1, 0, 1), start=(0, 2, 0)), (10, 1, 0))
+    case(book, "case 10, room for 3", PORTER, RISING, (13, 4, 0), room=3)
+    case(book, "case 10, room for 4", PORTER, RISING, (0, 4, 0), [0, 1, 3, 2], room=4)
+    case(book, "case 11, a rank repeated", PORTER, [0, 1, 1, 3, 4], (9, 2, 0))
+    case(book, "case 11, four ranks", PORTER, [0, 1, 2, 3], (9, 4, 1))
+    case(book, "case 13, both at 1", two_wanting(1), [0, 1], (12, 0, 0))
+    case(book, "case 13, both at 0", two_wanting(0), [0, 1], (12, 0, 0))
+    case(book, "case 13, both at 1 and a third", two_wanting(1, more=True), [0, 1, 2], (12, 1, 0))
+    case(book, "case 13, both at 0 and a third", two_wanting(0, more=True), [0, 1, 2], (12, 1, 0))
+    show_seeded(book, "case 13, both at 0 and a third", two_wanting(0, more=True), 0)
+    case(book, "case 14", coming_round(), [0, 1], (10, 0, 0))
+    case(book, "case 15", horse_breeder(), range(7), (11, 5, 1))
+
+
+NO_RING = file_of(Study([2] * 3, [Action(0, 0, 1, [(1, 0)]), Action(1, 0, 1, [(0, 1)]), Action(2, 0, 1)], [(0, 1)] * 3, 1))
+
+# Actions 0 and 1 are a ring. Action 2 comes before it, 3 after it, 4 after 3; 5 is apart.
+RING_BETWEEN = file_of(
+    Study(
+        [2] * 6,
+        [
+            Action(0, 0, 1, [(1, 1), (2, 1)]),
+            Action(1, 0, 1, [(0, 1)]),
+            Action(2, 0, 1),
+            Action(3, 0, 1, [(1, 1)]),
+            Action(4, 0, 1, [(3, 1)]),
+            Action(5, 0, 1),
+        ],
+        [(0, 1)] * 6,
+        1,
+    )
+)
+
+
+def still(goal):
+    """One variable and no action."""
+    return file_of(Study([2], [], [(0, goal)], 1))
+
+
+def other_files(book):
+    show_plan(book, "no ring", NO_RING, [0, 1, 2])
+    show_plan(book, "no ring, other ranks", NO_RING, [0, 2, 1])
+    show_plan(book, "a ring between", RING_BETWEEN, range(6))
+    show_plan(book, "a ring between, and no room", RING_BETWEEN, [5, 4, 3, 2, 1, 0], 0)
+    show_seeded(book, "a ring between", RING_BETWEEN)
+    show_plan(book, "no action, at the goal", still(0), [], 0)
+    show_seeded(book, "no action, at the goal", still(0))
+    show_plan(book, "no action, away from the goal", still(1), [])
+    show_plan(book, "no action, and a rank", still(1), [0])
+
+
+def rank_lists(book):
+    show_plan(book, "falling ranks", PORTER, [4, 3, 2, 1, 0])
+    show_plan(book, "a rank of 5", PORTER, [0, 1, 2, 3, 5])
+    show_plan(book, "a rank repeated before one of 9", PORTER, [4, 4, 9, 0, 0])
+    show_plan(book, "a rank of 255 before one repeated", PORTER, [255, 1, 1, 3, 4])
+    show_plan(book, "six ranks", PORTER, [0, 1, 2, 3, 4, 4])
+    show_plan(book, "no ranks", PORTER, [])
+
+
+def which_first(book):
+    """Where two refusals could be given, the first in their order is."""
+    no_walk = porter((1, 0, 0), start=(0, 2, 0))
+    show_plan(book, "ranks and room", PORTER, [0, 1, 1, 3, 4], 3)
+    show_plan(book, "ranks and no walk", no_walk, [0, 1, 2, 3])
+    show_plan(book, "no walk and room", no_walk, RISING, 0)
+    show_plan(book, "off a walk and room", porter((1, 2, 0)), RISING, 0)
+    show_plan(book, "no room wanted", porter((0, 0, 0)), RISING, 0)
+
+
+def seeds(book):
+    for seed in (1, 2, 256, 2147483646, 2147483647, 0):
+        show_seeded(book, f"seed {seed}", file_of(replace(read(PORTER), seed=seed)))
+    show_seeded(book, "room for 3", PORTER, 3)
+    show_seeded(book, "room for 4", PORTER, 4)
+
+
+def with_byte(at, byte):
+    return PORTER[:at] + bytes([byte]) + PORTER[at + 1 :]
+
+
+def faults(book):
+    """Faults of the file come first, before a wrong rank list and a short buffer."""
+    for name, file in [
+        ("nothing", b""),
+        ("cut to 54", PORTER[:54]),
+        ("cut to 55", PORTER[:55]),
+        ("an unknown kind", with_byte(6, 7)),
+        ("an end for an action", with_byte(6, 6)),
+        ("a variable of 17 values", with_byte(1, 17)),
+        ("pre equal to post", with_byte(9, 0)),
+        ("a value set twice", with_byte(11, 0)),
+        ("33 variables", bytes([1, 2]) * 33),
+        ("a byte more", still(0) + b"\0"),
+    ]:
+        show_plan(book, name, file, [0], 2)
+        show_seeded(book, name, file, 2)
+
+
+def in_one_buffer(book):
+    """Nothing is kept between calls but the buffer's bytes."""
+    with_bucket = file_of(replace(read(horse_breeder()), tasks=[(0, 2), (1, 0), (0, 2)]))
+    book.case("in one buffer: porter, horse, horse with the bucket, porter to 1 1 1, and porter again with room for 3 and for 8")
+    add_plan(book, PORTER, RISING, 8)
+    add_plan(book, horse_breeder(), range(7), 8)
+    add_plan(book, with_bucket, [6, 5, 4, 3, 2, 1, 0], 8)
+    add_plan(book, porter((1, 1, 1)), RISING, 8)
+    add_plan(book, PORTER, [3, 0, 4, 1, 2], 3)
+    add_seeded(book, PORTER, 8)
+    add_seeded(book, PORTER, 8)
+
+
+# A plan of 120 steps.
+
+
+def long(seed):
+    """8 variables that go from 0 to 15, one value a step."""
+    return Study([16] * 8, [Action(v, q, q + 1) for v in range(8) for q in range(15)], [(0, 15)] * 8, seed)
+
+
+def first_tried(study, ranks):
+    """The straight plan that is met first where lists are tried in dictionary order of ranks."""
+    in_order = sorted(range(len(study.actions)), key=lambda number: ranks[number])
+
+    def tried(steps, state, held):
+        if state == goal_state(study):
+            return steps
+        for number in in_order:
+            action = study.actions[number]
+            taken = (action.variable, action.post)
+            if may_be_done(state, action) and taken not in held:
+                found = tried(steps + [number], done(state, action), held | {taken})
+                if found is not None:
+                    return found
+        return None
+
+    start = start_state(study)
+    return tried([], start, frozenset(enumerate(start)))
+
+
+def compare_long(study, ranks):
+    """The oracle tries no list of a file with so many; here they are tried in order until one is a straight plan."""
+    steps = bytes(first_tried(study, ranks))
+    if plan(file_of(study), bytes(ranks), bytes(120)) != ((0, 120, 0), steps):
+        sys.exit(f"120 steps: the first straight plan is {list(steps)}")
+
+
+def show_long(book, step, room):
+    ranks = [step * i % 120 for i in range(120)]
+    compare_long(long(1), ranks)
+    show_plan(book, f"120 steps, action i of rank {step} i modulo 120, room for {room}", file_of(long(1)), ranks, room)
+
+
+def show_long_seeded(book, seed, room):
+    compare_long(long(seed), drawn(seed, 120)[0])
+    show_seeded(book, f"120 steps, room for {room}", file_of(long(seed)), room)
+
+
+def write(book):
+    worked(book)
+    other_files(book)
+    rank_lists(book)
+    which_first(book)
+    seeds(book)
+    faults(book)
+    in_one_buffer(book)
+    show_long(book, 1, 124)
+    show_long(book, 119, 120)
+    show_long(book, 7, 120)
+    show_long(book, 7, 119)
+    show_long_seeded(book, 1, 120)
+    show_long_seeded(book, 2, 124)

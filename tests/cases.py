@@ -1,0 +1,19 @@
+"""The cases that the program `cases` runs, from document 01's text alone: nothing here is taken from the Rattle code.
+
+usage: cases.py stdin     prints the program's input
+       cases.py stdout    prints what the program must write
+"""
+
+import sys
+
+sys.dont_write_bytecode = True
+
+from calls import checks, draws, plans, records, runs
+from calls.book import Book
+
+book = Book()
+for kind in (draws, records, checks, runs, plans):
+    kind.write(book)
+if sys.argv[1:] not in (["stdin"], ["stdout"]):
+    sys.exit(__doc__)
+print(*(book.input if sys.argv[1] == "stdin" else book.output), sep="\n")
