@@ -14,6 +14,8 @@ from calls.book import Book
 book = Book()
 for kind in (draws, records, checks, runs, plans):
     kind.write(book)
+book.case("a word that the program does not know")
+book.ask("fly 12", "not understood")
 if sys.argv[1:] not in (["stdin"], ["stdout"]):
     sys.exit(__doc__)
 print(*(book.input if sys.argv[1] == "stdin" else book.output), sep="\n")

@@ -8,10 +8,6 @@ BEHIND = 8  # so many bytes behind those that are lent are printed too
 IN_A_LINE = 96  # of the file's bytes, at most
 
 
-def shared(a, b):
-    return len(os.path.commonprefix([a, b]))
-
-
 class Book:
     def __init__(self):
         self.input = []
@@ -32,22 +28,14 @@ class Book:
         if says is not None and found != says:
             sys.exit(f"{self.name}: document 01 says {says}, and not {found}")
 
-    def put(self, start, end, data):
-        self.input.append(f"file {start} {end} {data.hex()}".rstrip())
-        self.file = self.file[:start] + data + self.file[end:]
-
     def use(self, file):
-        """The calls that follow get this file. Of one that is much like the file before, only what differs is given."""
+        """The calls that follow get this file. Of one that begins as the file before does, what follows is given."""
         if file == self.file:
             return
-        start = shared(self.file, file)
-        tail = shared(self.file[start:][::-1], file[start:][::-1])
-        if 2 * (start + tail) < len(file):
-            start = tail = 0
-        new = file[start : len(file) - tail]
-        self.put(start, len(self.file) - tail, new[:IN_A_LINE])
-        for at in range(IN_A_LINE, len(new), IN_A_LINE):
-            self.put(start + at, start + at, new[at : at + IN_A_LINE])
+        kept = len(os.path.commonprefix([self.file, file]))
+        for at in range(kept, len(file), IN_A_LINE) or [kept]:
+            self.input.append(f"file {at} {file[at : at + IN_A_LINE].hex()}".rstrip())
+        self.file = file
 
     def ask(self, call, *answer):
         """A call that writes nothing."""

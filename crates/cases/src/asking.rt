@@ -5,27 +5,34 @@
 //     records             each record, found by the reader behind the one before it, up to the end record or a refusal
 //     number STEPS SEED   the generator's number after so many steps
 use crate::show;
-use crate::words::begins;
 use crate::words::number;
 use records::Found;
 
+// The words, as `words::word` reads them.
+const CHECK: u64 = 0x636865636b;
+
+const RECORD: u64 = 0x7265636f7264;
+
+const RECORDS: u64 = 0x7265636f726473;
+
+const NUMBER: u64 = 0x6e756d626572;
+
 const END: u8 = 6;
 
-// Makes the call that the line names, if it is one of these, and answers whether it is.
-pub(crate) fn ask(line: &[u8], file: &[u8]) -> bool {
-    if begins(line, b"check") {
-        show::answers(checker::check(file));
-    } else if begins(line, b"record") {
-        record(file, number(line, 1) as usize);
-    } else if begins(line, b"records") {
-        records(file);
-    } else if begins(line, b"number") {
-        let last = number_after(number(line, 1), number(line, 2));
-        show::text_and_number(b" is", last as u64);
-    } else {
-        return false;
+// Makes the call of this word, if it is one of these, and answers whether it is.
+pub(crate) fn ask(word: u64, line: &[u8], file: &[u8]) -> bool {
+    match word {
+        CHECK => show::answers(checker::check(file)),
+        RECORD => record(file, number(line, 1) as usize),
+        RECORDS => records(file),
+        NUMBER => generator(number(line, 1), number(line, 2)),
+        _ => return false,
     }
     true
+}
+
+fn generator(steps: u64, seed: u64) {
+    show::text_and_number(b" is", number_after(steps, seed) as u64);
 }
 
 fn number_after(steps: u64, seed: u64) -> u32 {

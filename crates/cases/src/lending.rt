@@ -5,23 +5,27 @@
 //     run ROOM LIST
 //     draw ROOM SEED COUNT
 use crate::show;
-use crate::words::begins;
 use crate::words::bytes;
 use crate::words::front;
 use crate::words::number;
 ghost use Prim.Native.Nat.{_≤_};
+ghost use lib.ListN.{length};
 
-// Makes the call that the line names, if it is one of these, and answers whether it is. What it leaves is printed with the
-// 8 bytes behind.
-pub(crate) fn lend(line: &[u8], file: &[u8], buffer: &mut [u8]) -> bool {
+// The words, as `words::word` reads them.
+const PLAN: u64 = 0x706c616e;
+
+const SEEDED: u64 = 0x736565646564;
+
+const RUN: u64 = 0x72756e;
+
+const DRAW: u64 = 0x64726177;
+
+// Makes the call of this word, if it is one of these, and answers whether it is.
+pub(crate) fn lend(word: u64, line: &[u8], file: &[u8], buffer: &mut [u8]) -> bool {
     let mut list = [0u8; 320];
     let n = bytes(line, 2, &mut list, 0);
     let room = least(least(number(line, 1), 264), buffer.len() as u64) as usize;
-    if !call(line, file, front(&list, n), &mut buffer[0..room]) {
-        return false;
-    }
-    show::text_and_bytes(b" leaves", front(buffer, room + 8));
-    true
+    lend_first(word, line, file, front(&list, n), buffer, room)
 }
 
 fn least(a: u64, b: u64) -> u64
@@ -30,17 +34,31 @@ fn least(a: u64, b: u64) -> u64
     if a < b { a } else { b }
 }
 
-fn call(line: &[u8], file: &[u8], list: &[u8], room: &mut [u8]) -> bool {
-    if begins(line, b"plan") {
-        show::answers(planner::plan(file, list, room));
-    } else if begins(line, b"seeded") {
-        show::answers(planner::plan_seeded(file, room));
-    } else if begins(line, b"run") {
-        show::answers(running::run(file, list, room));
-    } else if begins(line, b"draw") {
-        show::answers(draw::draw(number(line, 2), number(line, 3), room));
-    } else {
+// What the call leaves is printed with the 8 bytes behind.
+fn lend_first(
+    word: u64,
+    line: &[u8],
+    file: &[u8],
+    list: &[u8],
+    buffer: &mut [u8],
+    room: usize,
+) -> bool
+    requires { ⌜ (room ≤ 264) × (room ≤ length (now buffer)) ⌝ }
+{
+    if !call(word, line, file, list, &mut buffer[0..room]) {
         return false;
+    }
+    show::text_and_bytes(b" leaves", front(buffer, room + 8));
+    true
+}
+
+fn call(word: u64, line: &[u8], file: &[u8], list: &[u8], room: &mut [u8]) -> bool {
+    match word {
+        PLAN => show::answers(planner::plan(file, list, room)),
+        SEEDED => show::answers(planner::plan_seeded(file, room)),
+        RUN => show::answers(running::run(file, list, room)),
+        DRAW => show::answers(draw::draw(number(line, 2), number(line, 3), room)),
+        _ => return false,
     }
     true
 }

@@ -1,4 +1,5 @@
 // Words, numbers, bytes and answers on standard output.
+use crate::words::wide;
 use answer::Answer;
 use libc::STDOUT_FILENO;
 
@@ -30,10 +31,6 @@ pub(crate) fn text_and_bytes(words: &[u8], all: &[u8]) {
         io::print_hex(STDOUT_FILENO, wide(all[i]), 2);
         i += 1;
     }
-}
-
-fn wide(byte: u8) -> u64 {
-    byte as u64
 }
 
 pub(crate) fn answers(answer: Answer) {

@@ -2,21 +2,27 @@
 ghost use Prim.Native.Nat.{_≤_, _<_};
 ghost use lib.ListN.{length};
 
-// Whether the line's first word is this one.
-pub(crate) fn begins(line: &[u8], word: &[u8]) -> bool {
-    let n = word.len();
-    if line.len() < n {
-        return false;
-    }
-    if n < line.len() {
-        if line[n] != b' ' {
-            return false;
+// The line's first word as a number: its letters, of a longer one the last eight, as bytes of a number; run is 0x72756e.
+pub(crate) fn word(line: &[u8]) -> u64 {
+    let mut value = 0u64;
+    let mut i = 0;
+    while i < line.len() {
+        if line[i] == b' ' {
+            return value;
         }
+        value = value % 72057594037927936 * 256 + wide(line[i]);
+        i += 1;
     }
-    check::same(&line[0..n], word)
+    value
 }
 
-// An argument that is a number.
+pub(crate) fn wide(byte: u8) -> u64
+    ensures { λ r. ⌜ r < 256 ⌝ }
+{
+    byte as u64
+}
+
+// The k-th argument, a number. One of more than 64 bits comes out as another.
 pub(crate) fn number(line: &[u8], k: usize) -> u64 {
     let mut value = 0u64;
     let mut left = behind(line, k);
@@ -31,7 +37,7 @@ pub(crate) fn number(line: &[u8], k: usize) -> u64 {
     value
 }
 
-// An argument that is bytes, the line's last, put into a slice at a place. Answers the place after them.
+// The k-th argument, the line's last: bytes, put into a slice at a place. Answers the place after them.
 pub(crate) fn bytes(line: &[u8], k: usize, into: &mut [u8], n: usize) -> usize {
     let mut n = n;
     let mut left = behind(line, k);
@@ -81,26 +87,9 @@ fn put(into: &mut [u8], n: usize, byte: u8) -> usize {
     n
 }
 
-pub(crate) fn put_all(all: &[u8], into: &mut [u8], n: usize) -> usize {
-    let mut n = n;
-    let mut i = 0;
-    while i < all.len() {
-        n = put(into, n, all[i]);
-        i += 1;
-    }
-    n
-}
-
 pub(crate) fn front(s: &[u8], n: usize) -> &[u8] {
     if s.len() < n {
         return s;
     }
     &s[0..n]
-}
-
-pub(crate) fn back(s: &[u8], n: usize) -> &[u8] {
-    if s.len() < n {
-        return &s[..0];
-    }
-    &s[n..]
 }

@@ -7,10 +7,10 @@ use Rattle.cases.proofs.lines.Statement.{statement}
 use Rattle.cases.proofs.lines.Tie as tie
 
 abbrev Inv-loop : tie.InvT-loop
-Inv-loop text file₀ n₀ buffer₀ at₀ t8 t9 file n buffer at = Unit
+Inv-loop text file₀ n₀ buffer₀ at₀ file n buffer at = Unit
 
 abbrev μ-loop : tie.MeasureT-loop
-μ-loop text file₀ n₀ buffer₀ at₀ t8 t9 file n buffer at = length text - at
+μ-loop text file₀ n₀ buffer₀ at₀ file n buffer at = length text - at
 
 loop-holds : tie.Need-loop-holds Inv-loop μ-loop
 loop-holds c = search needs
@@ -27,20 +27,11 @@ part-line-start c = search needs
 part-line-end : tie.Need-part-line-end Inv-loop μ-loop
 part-line-end c = search needs
 
-slice-aggregate-begins : tie.Need-slice-aggregate-begins Inv-loop μ-loop
-slice-aggregate-begins c = search needs
-
-begins-requires : tie.Need-begins-requires Inv-loop μ-loop
-begins-requires c κs = search needs
+word-requires : tie.Need-word-requires Inv-loop μ-loop
+word-requires c κs = search needs
 
 line-requires : tie.Need-line-requires Inv-loop μ-loop
 line-requires c κs = search needs
-
-slice-aggregate-begins-2 : tie.Need-slice-aggregate-begins-2 Inv-loop μ-loop
-slice-aggregate-begins-2 c = search needs
-
-begins-requires-2 : tie.Need-begins-requires-2 Inv-loop μ-loop
-begins-requires-2 c κs = search needs
 
 edit-requires : tie.Need-edit-requires Inv-loop μ-loop
 edit-requires c κs = search needs
@@ -71,11 +62,8 @@ lines-spec =
     sub-line
     part-line-start
     part-line-end
-    slice-aggregate-begins
-    begins-requires
+    word-requires
     line-requires
-    slice-aggregate-begins-2
-    begins-requires-2
     edit-requires
     call-requires
     add-at
