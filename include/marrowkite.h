@@ -70,10 +70,10 @@
  *
  * At most, in bytes, whatever the arguments; the tests hold every call that they make to it:
  *
- *   marrowkite_check          2,816
+ *   marrowkite_check          2,944
  *   marrowkite_plan           5,504
  *   marrowkite_plan_seeded    5,504
- *   marrowkite_run            3,392
+ *   marrowkite_run            3,584
  *   marrowkite_draw             128
  *   marrowkite_record_at        128
  */

@@ -9,7 +9,7 @@ use lib.Seq.{getD-set-same, getD-set-other, getD-at}
 use Rattle.study.specs.Study.{Action, actionAt, noAction}
 use Rattle.plain.proofs.Lists.{length-more}
 use Rattle.lawful.proofs.Faults.{NoneSets}
-use Rattle.loader.specs.Tables.{ActionTables, Tables, actionTables, Sized, HoldsAction, HoldsActions}
+use Rattle.tables.specs.Tables.{ActionTables, Tables, actionTables, Sized, HoldsAction, HoldsActions}
 use Rattle.loader.proofs.Grows.{each-next, set-below}
 
 abbrev pub oneAction : ActionTables → (i v x y next : ℕ) → ActionTables

@@ -10,20 +10,23 @@ use lib.Seq.{getD-set-same}
 use borrow.Author.Tests.{le-leb}
 use Rattle.study.specs.Study.{Action, Task, noAction, noTask}
 use Rattle.study.specs.Reading.{Draft, fault, with, variable, action, condition, task, seed, above, lastAction, withCondition}
+use Rattle.study.proofs.Setters.{sets-kept}
 use Rattle.plain.proofs.Lists.{length-more}
 use Rattle.lawful.proofs.Faults.{faultless}
 use Rattle.loader.proofs.Grows.{each-entered, table-more, last-entered, last-more, last-set}
 use Rattle.loader.proofs.Actions.{actions-more}
-use Rattle.loader.proofs.Conditions.{above-more, action-with-condition}
-use Rattle.loader.specs.declared.Progress.{Progress}
-use Rattle.loader.specs.Tables.{Tables, tables, actionTables}
-use Rattle.loader.specs.Steps.{Stands, afterVariable, afterAction, afterCondition, afterTask, afterSeed}
+use Rattle.loader.proofs.OneCondition.{above-more, action-with-condition}
+use Rattle.loader.proofs.Marks.{marks-more, marks-same}
+use Rattle.entering.specs.declared.Progress.{Progress}
+use Rattle.tables.specs.Tables.{Tables, tables, actionTables}
+use Rattle.entering.specs.Steps.{afterVariable, afterAction, afterCondition, afterTask, afterSeed}
+use Rattle.loader.specs.Reads.{Stands}
 
-module _ {file : List ℕ} {p : Progress} {t : Tables} {d : Draft} (stands : Stands file p t d) (next : ℕ) where
+module _ {file : List ℕ} {p : Progress} {t : Tables} {m : List ℕ} {d : Draft} (stands : Stands file p t m d) (next : ℕ) where
   pub variable-entered :
       (n : ℕ)
       → fault (d .study) (variable n) ≡ 0
-      → Stands file (afterVariable p next) (tables (set (t .counts) (p .vars) n) (t .acts) (t .starts) (t .goals)) (record { study = with (d .study) (variable n); last = 1 })
+      → Stands file (afterVariable p next) (tables (set (t .counts) (p .vars) n) (t .acts) (t .starts) (t .goals)) m (record { study = with (d .study) (variable n); last = 1 })
   unfolding with
   variable-entered n good = let (few, low, high) = faultless (d .study) (variable n) good in record {
     sized = omega (arith, length-set (t .counts) (p .vars) n);
@@ -34,6 +37,7 @@ module _ {file : List ℕ} {p : Progress} {t : Tables} {d : Draft} (stands : Sta
       value = table-more (d .study .counts) n 0 (λ m. m) (t .counts) (p .vars) (stands .counts .count) (omega arith) (stands .counts .value);
     };
     actions = stands .actions;
+    marks = stands .marks;
     tasks = stands .tasks;
     few-tasks = omega arith;
     all-tasks = λ h. absurd (omega arith);
@@ -54,31 +58,36 @@ module _ {file : List ℕ} {p : Progress} {t : Tables} {d : Draft} (stands : Sta
       (actionTables (set (t .acts .setters) (16 * v + y) (p .actions)) (set (t .acts .vars) (p .actions) v) (set (t .acts .pres) (p .actions) x) (set (t .acts .posts) (p .actions) y)
       (set (t .acts .places) (p .actions) next) (set (t .acts .manys) (p .actions) 0))
       (t .starts) (t .goals))
+      (set m (16 * v + y) 1)
       (record { study = with (d .study) (action v x y); last = 2 })
   unfolding with above
-  action-entered v x y good room = let (few, has-pre, has-post, differ, none) = faultless (d .study) (action v x y) good in record {
-    sized = omega (
-      arith,
-      length-set (t .acts .setters) (16 * v + y) (p .actions),
-      length-set (t .acts .vars) (p .actions) v,
-      length-set (t .acts .pres) (p .actions) x,
-      length-set (t .acts .posts) (p .actions) y,
-      length-set (t .acts .places) (p .actions) next,
-      length-set (t .acts .manys) (p .actions) 0,
-    );
-    counts = stands .counts;
-    actions = actions-more (stands .sized) (stands .actions) v x y next (omega arith) (omega arith)
-        (omega (arith, stands .counts .small v (omega arith), stands .counts .value v (omega arith))) none room;
-    tasks = stands .tasks;
-    few-tasks = stands .few-tasks;
-    all-tasks = λ h. absurd (omega arith);
-    last = refl;
-    own = sym (ap (λ a. a .var) last);
-    above = λ z. rw (last, le-leb 0 z (omega arith));
-    seed = stands .seed;
-    next-condition = λ h g. omega (arith, last-entered (t .acts .places) (p .actions) next (omega arith));
-    counted = λ h g. last-entered (t .acts .manys) (p .actions) 0 (omega arith);
-  }
+  action-entered v x y good room =
+      let (few, has-pre, has-post, differ, none) = faultless (d .study) (action v x y) good in
+      let narrow : y < 16 = omega (arith, stands .counts .small v (omega arith), stands .counts .value v (omega arith)) in
+      record {
+        sized = omega (
+          arith,
+          length-set (t .acts .setters) (16 * v + y) (p .actions),
+          length-set (t .acts .vars) (p .actions) v,
+          length-set (t .acts .pres) (p .actions) x,
+          length-set (t .acts .posts) (p .actions) y,
+          length-set (t .acts .places) (p .actions) next,
+          length-set (t .acts .manys) (p .actions) 0,
+        );
+        counts = stands .counts;
+        actions = actions-more (stands .sized) (stands .actions) v x y next (omega arith) (omega arith)
+            narrow none room;
+        marks = marks-more (stands .marks) new (omega arith) narrow;
+        tasks = stands .tasks;
+        few-tasks = stands .few-tasks;
+        all-tasks = λ h. absurd (omega arith);
+        last = refl;
+        own = sym (ap (λ a. a .var) last);
+        above = λ z. rw (last, le-leb 0 z (omega arith));
+        seed = stands .seed;
+        next-condition = λ h g. omega (arith, last-entered (t .acts .places) (p .actions) next (omega arith));
+        counted = λ h g. last-entered (t .acts .manys) (p .actions) 0 (omega arith);
+      }
     where
       new : Action
       new = record { var = v; pre = x; post = y; conditions = [] }
@@ -99,6 +108,7 @@ module _ {file : List ℕ} {p : Progress} {t : Tables} {d : Draft} (stands : Sta
       (tables (t .counts)
       (actionTables (t .acts .setters) (t .acts .vars) (t .acts .pres) (t .acts .posts) (t .acts .places) (set (t .acts .manys) (p .actions - 1) (p .many + 1)))
       (t .starts) (t .goals))
+      m
       (record { study = with (d .study) (condition v q); last = 3 })
   unfolding with
   condition-entered v q low high some at room is-var is-value = record {
@@ -107,6 +117,7 @@ module _ {file : List ℕ} {p : Progress} {t : Tables} {d : Draft} (stands : Sta
     actions = rw (← same)
         (action-with-condition (stands .sized) (stands .actions) (p .actions - 1) v q (p .many) (p .at) (omega arith)
         (stands .counted low high) (stands .next-condition low high) (omega arith) is-var is-value);
+    marks = marks-same (stands .marks) (sets-kept (d .study .actions) (length (d .study .actions) - 1) (withCondition (lastAction (d .study)) v q) refl refl);
     tasks = stands .tasks;
     few-tasks = stands .few-tasks;
     all-tasks = λ h. absurd (omega arith);
@@ -128,12 +139,13 @@ module _ {file : List ℕ} {p : Progress} {t : Tables} {d : Draft} (stands : Sta
       (v x y : ℕ)
       → fault (d .study) (task v x y) ≡ 0
       → p .tasks < p .vars
-      → Stands file (afterTask p next) (tables (t .counts) (t .acts) (set (t .starts) v x) (set (t .goals) v y)) (record { study = with (d .study) (task v x y); last = 4 })
+      → Stands file (afterTask p next) (tables (t .counts) (t .acts) (set (t .starts) v x) (set (t .goals) v y)) m (record { study = with (d .study) (task v x y); last = 4 })
   unfolding with
   task-entered v x y good left = record {
     sized = omega (arith, length-set (t .starts) v x, length-set (t .goals) v y);
     counts = stands .counts;
     actions = stands .actions;
+    marks = stands .marks;
     tasks = record {
       count = omega (arith, length-more old new);
       start = rw here (table-more old new noTask (λ a. a .start) (t .starts) (p .tasks) (stands .tasks .count) (omega arith) (stands .tasks .start));
@@ -161,12 +173,13 @@ module _ {file : List ℕ} {p : Progress} {t : Tables} {d : Draft} (stands : Sta
   pub seed-entered :
       (n : ℕ)
       → p .vars ≤ p .tasks
-      → Stands file (afterSeed p n next) t (record { study = with (d .study) (seed n); last = 5 })
+      → Stands file (afterSeed p n next) t m (record { study = with (d .study) (seed n); last = 5 })
   unfolding with
   seed-entered n all = record {
     sized = stands .sized;
     counts = stands .counts;
     actions = stands .actions;
+    marks = stands .marks;
     tasks = stands .tasks;
     few-tasks = stands .few-tasks;
     all-tasks = λ h. all;

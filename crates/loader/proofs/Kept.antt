@@ -6,9 +6,11 @@ use Prim.Native.Nat.{ℕ, _+_, _≤_, _<_}
 use native.Mathlib.Omega.{arith}
 use lib.ListN.{length, getD, set}
 use Rattle.plain.proofs.Lists.{one-set}
-use Rattle.loader.specs.declared.Progress.{Progress}
-use Rattle.loader.specs.Steps.{Safe, variableFault, actionFault, conditionFault, afterVariable, afterAction, afterCondition, afterTask, afterSeed}
-use Rattle.loader.proofs.Bounds.{variable-bounds, action-bounds, condition-bounds}
+use Rattle.entering.specs.declared.Progress.{Progress}
+use Rattle.judging.specs.Faults.{variableFault, actionFault, conditionFault}
+use Rattle.entering.specs.Steps.{afterVariable, afterAction, afterCondition, afterTask, afterSeed}
+use Rattle.loader.specs.Reads.{Safe}
+use Rattle.judging.proofs.Bounds.{variable-bounds, action-bounds, condition-bounds}
 
 module _ {file : List ℕ} {p : Progress} {counts : List ℕ} (safe : Safe file p counts) (next : ℕ) (room : next ≤ length file) where
   pub variable-kept :
@@ -22,11 +24,11 @@ module _ {file : List ℕ} {p : Progress} {counts : List ℕ} (safe : Safe file 
       search arith
 
   pub action-kept :
-      (setters vars-of posts : List ℕ) (v x y : ℕ)
-      → actionFault counts setters vars-of posts (p .vars) (p .actions) v x y ≡ 0 → p .last ≤ 3 → next ≡ p .at + 4
+      (marks : List ℕ) (v x y : ℕ)
+      → actionFault counts marks (p .vars) (p .actions) v x y ≡ 0 → p .last ≤ 3 → next ≡ p .at + 4
       → Safe file (afterAction p v next) counts
-  action-kept setters vars-of posts v x y good low at =
-      let few = action-bounds counts setters vars-of posts good .0 in
+  action-kept marks v x y good low at =
+      let few = action-bounds counts marks good .0 in
       let short = safe .short low in
       search arith
 

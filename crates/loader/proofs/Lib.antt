@@ -1,12 +1,10 @@
 pub mod Told
 pub mod Grows
 pub mod Actions
-pub mod Conditions
+pub mod OneCondition
+pub mod Marks
 pub mod Entered
 pub mod Kept
 pub mod Arms
-pub mod Tests
-pub mod Bounds
 pub mod Pass
 pub mod Runs
-pub mod Fresh

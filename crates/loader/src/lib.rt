@@ -1,72 +1,99 @@
-// Reads a study file once and fills the tables that planning and running need; and checks a file.
-mod entries;
-mod faults;
-mod order;
+// Reads a study file once and fills the tables that planning and running need.
 mod pace;
-mod sections;
 
-ghost use Rattle.loader.specs.Tables.{tables, actionTables, Sized};
-ghost use Rattle.loader.specs.Steps.{Loads};
+ghost use Prim.Native.Nat.{ℕ, _-_, _≤_};
+ghost use mathlib.Core.List.{List};
+ghost use Rattle.tables.specs.Tables.{ActionTables, tables, Sized, Loads};
+ghost use Rattle.entering.specs.Steps.{withMany};
+ghost use Rattle.tables.specs.Rows.{countColumn, seenAll};
+ghost use Rattle.loader.specs.Reads.{Safe, Halfway};
+use entering::Progress;
+use entering::Step;
+use records::Found;
+use tables::Loaded;
 
-// Where the reading stands: the place to read on from, how many variables, actions and tasks were read, the kind of the
-// last record, the variable of the last action, the least variable that its next condition may name, how many
-// conditions it has, and the seed.
-pub(crate) struct Progress {
-    pub(crate) at: usize,
-    pub(crate) vars: usize,
-    pub(crate) actions: usize,
-    pub(crate) tasks: usize,
-    pub(crate) last: u8,
-    pub(crate) own: u8,
-    pub(crate) above: u8,
-    pub(crate) many: u8,
-    pub(crate) seed: u64,
+const CONDITION: u8 = 3;
+
+// Reads on while conditions of the last action follow that have no fault. Whatever comes then is left to the general step.
+// How many conditions the action has is entered once, by the caller.
+fn conditions(file: &[u8], begin: Progress, rows: &[[u8; 3]; 32]) -> Progress
+    requires { ⌜ Safe (now file) begin (countColumn (now rows)) ⌝ }
+    requires { ⌜ (2 ≤ begin .last) × (begin .last ≤ 3) ⌝ }
+    ensures { λ r. ⌜ Safe (now (file .entry)) r (countColumn (now (rows .entry))) ⌝ }
+    ensures { λ r. ⌜ (2 ≤ r .last) × (r .last ≤ 3) × (begin .at ≤ r .at) ⌝ }
+    ensures { λ r. ⌜ ((acts : ActionTables) (starts goals marks : List ℕ)
+        → Halfway (now (file .entry)) (tables (countColumn (now (rows .entry))) acts starts goals) marks begin
+        → Halfway (now (file .entry)) (tables (countColumn (now (rows .entry))) (withMany acts (r .actions - 1) (r .many)) starts goals) marks r) ⌝ }
+{
+    let mut p = begin;
+    loop {
+        let at = p.at;
+        let found = reader::record_from(file, at);
+        let Found::There {
+            kind,
+            start,
+            next: _,
+        } = found
+        else {
+            return p;
+        };
+        if kind != CONDITION {
+            return p;
+        }
+        let v = file[start];
+        if judging::faults::condition_fault(rows, p.vars, p.own, p.above, v, file[start + 1]) != 0 {
+            return p;
+        }
+        let next = Progress {
+            at: start + 2,
+            vars: p.vars,
+            actions: p.actions,
+            tasks: p.tasks,
+            last: 3,
+            own: p.own,
+            above: v + 1,
+            many: p.many + 1,
+            seed: p.seed,
+        };
+        p = next;
+    }
 }
 
-// What one record leads to.
-pub(crate) enum Step {
-    On(Progress),
-    Refused { number: u8, place: usize },
-    Done(Progress),
-}
-
-// What a file says: how many variables and actions, and the seed; the rest is in the tables. Or the refusal.
-pub enum Loaded {
-    Study {
-        vars: usize,
-        actions: usize,
-        seed: u64,
-    },
-    Refused {
-        number: u8,
-        place: usize,
-    },
+// After an action, its conditions.
+fn with_conditions(
+    file: &[u8],
+    p: Progress,
+    acts: &mut [[u8; 6]; 256],
+    rows: &[[u8; 3]; 32],
+) -> Progress
+    requires { ⌜ Safe (now file) p (countColumn (now rows)) ⌝ }
+    ensures { λ r. ⌜ Safe (now (file .entry)) r (countColumn (now (rows .entry))) × (p .at ≤ r .at) ⌝ }
+    ensures { λ r. ⌜ ((setters marks : List ℕ)
+        → Halfway (now (file .entry)) (seenAll (now (acts .entry)) (now (rows .entry)) setters) marks p
+        → Halfway (now (file .entry)) (seenAll (now (acts .exit)) (now (rows .entry)) setters) marks r) ⌝ }
+{
+    if p.last != 2 {
+        return p;
+    }
+    let run = conditions(file, p, rows);
+    entering::enter_many(run.actions - 1, run.many, acts);
+    run
 }
 
 // Fills the tables by one pass over the file. They may hold anything before: no entry is believed that was not written.
 // `Sized` says of the tables what their types say; a function is not told the length of an array that it is lent.
 pub fn load(
     file: &[u8],
-    counts: &mut [u8; 32],
+    acts: &mut [[u8; 6]; 256],
+    vars: &mut [[u8; 3]; 32],
     setters: &mut [u8; 512],
-    vars: &mut [u8; 256],
-    pres: &mut [u8; 256],
-    posts: &mut [u8; 256],
-    places: &mut [u16; 256],
-    manys: &mut [u8; 256],
-    starts: &mut [u8; 32],
-    goals: &mut [u8; 32],
 ) -> Loaded
-    ensures { λ r. ⌜ (Sized
-        (tables (now (counts .entry))
-        (actionTables (now (setters .entry)) (now (vars .entry)) (now (pres .entry)) (now (posts .entry)) (now (places .entry)) (now (manys .entry)))
-        (now (starts .entry)) (now (goals .entry)))
-        → Loads (now (file .entry))
-        (tables (now (counts .exit))
-        (actionTables (now (setters .exit)) (now (vars .exit)) (now (pres .exit)) (now (posts .exit)) (now (places .exit)) (now (manys .exit)))
-        (now (starts .exit)) (now (goals .exit))) r) ⌝ }
+    ensures { λ r. ⌜ (Sized (seenAll (now (acts .entry)) (now (vars .entry)) (now (setters .entry)))
+        → Loads (now (file .entry)) (seenAll (now (acts .exit)) (now (vars .exit)) (now (setters .exit))) r) ⌝ }
 {
-    let origin = Progress {
+    // By variable and value, at 16 * v + q: whether some action sets it.
+    let mut marks = [0u8; 512];
+    let mut p = Progress {
         at: 0,
         vars: 0,
         actions: 0,
@@ -77,46 +104,22 @@ pub fn load(
         many: 0,
         seed: 0,
     };
-    let with_variables = sections::variables(file, origin, counts);
-    // Two calls of `rest` keep it a function of its own, and the loops before it fast: docs/DECISIONS.md, 'Speed'.
-    if with_variables.last < 1 {
-        return pace::rest(
-            file,
-            with_variables,
-            counts,
-            setters,
-            vars,
-            pres,
-            posts,
-            places,
-            manys,
-            starts,
-            goals,
-        );
+    loop {
+        let taken = pace::step(file, p, acts, vars, setters, &mut marks);
+        match taken {
+            Step::On(next) => {
+                p = with_conditions(file, next, acts, vars);
+            }
+            Step::Refused { number, place } => {
+                return Loaded::Refused { number, place };
+            }
+            Step::Done(end) => {
+                return Loaded::Study {
+                    vars: end.vars,
+                    actions: end.actions,
+                    seed: end.seed,
+                };
+            }
+        }
     }
-    let with_actions = sections::actions(
-        file,
-        with_variables,
-        counts,
-        setters,
-        vars,
-        pres,
-        posts,
-        places,
-        manys,
-    );
-    let with_tasks = sections::tasks(file, with_actions, counts, starts, goals);
-    pace::rest(
-        file,
-        with_tasks,
-        counts,
-        setters,
-        vars,
-        pres,
-        posts,
-        places,
-        manys,
-        starts,
-        goals,
-    )
 }

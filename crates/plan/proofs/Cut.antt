@@ -9,7 +9,7 @@ use borrow.Author.Tests.{ne-eqb}
 use Rattle.study.specs.Reading.{refused, reading}
 use Rattle.study.proofs.Refusals.{refusals-numbered}
 use Rattle.lawful.proofs.Lengths.{longer-is-refused}
-use Rattle.plan.specs.Text.{refusedLine}
+use Rattle.telling.specs.Text.{refusedLine}
 use Rattle.plan.specs.Printed.{Printed}
 
 refusal-printed : (number place : ℕ) → 1 ≤ number → {text : List ℕ} → Printed (refused number place) text → text ≡ refusedLine number place 0

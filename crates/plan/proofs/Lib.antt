@@ -1,6 +1,3 @@
-pub mod Digits
-pub mod Placed
-pub mod Shown
-pub mod Planned
-pub mod Once
 pub mod Cut
+pub mod Once
+pub mod Planned

@@ -14,13 +14,12 @@ use Rattle.study.proofs.Refusals.{NumberedIfRefused, refusals-numbered}
 use Rattle.plans.specs.Plans.{State, Runs, after}
 use Rattle.planning.specs.Planning.{Plans, wrong-length, wrong-entry, no-walk, off-walk, ring, no-room, a-plan}
 use Rattle.planning.specs.Seeded.{PlansSeeded}
-use Rattle.loader.specs.Tables.{Tables, Holds}
-use Rattle.loader.specs.Steps.{Loads}
-use Rattle.loader.specs.declared.Loaded.{Loaded}
-use Rattle.loader.specs.declared.Loaded.the-variants as Load
-use Rattle.plan.specs.Text.{shownOf, shownIn, planText, firstLine}
+use Rattle.tables.specs.Tables.{Tables, Holds, Loads}
+use Rattle.tables.specs.declared.Loaded.{Loaded}
+use Rattle.tables.specs.declared.Loaded.the-variants as Load
+use Rattle.telling.specs.Text.{shownOf, shownIn, planText, firstLine}
 use Rattle.plan.specs.Printed.{actionsOf, Printed}
-use Rattle.plan.proofs.Shown.{Agree, lines-agree}
+use Rattle.telling.proofs.Shown.{Agree, lines-agree}
 
 runs-usable :
     (t : Study) (s end : State) (list : List ℕ) → Runs t s list end → (k : ℕ) → k < length list → getD list k 0 < length (t .actions)

@@ -10,7 +10,7 @@ use Rattle.answer.specs.declared.Answer.{Answer}
 use Rattle.study.specs.Study.{Action}
 use Rattle.study.specs.Reading.{Said, says, refused}
 use Rattle.planning.specs.Seeded.{PlansSeeded}
-use Rattle.plan.specs.Text.{shownOf, planText, refusedLine}
+use Rattle.telling.specs.Text.{shownOf, planText, refusedLine}
 
 abbrev pub actionsOf : Said → List Action
 actionsOf (says t) = t .actions

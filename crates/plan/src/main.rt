@@ -1,14 +1,11 @@
 // Plans the study file on standard input with its own seed, and prints the plan or the refusal.
-mod lines;
-mod text;
-
 ghost use mathlib.Core.Path.{_≡_};
 ghost use Prim.Native.Nat.{ℕ, _≤_, _<_};
 ghost use lib.ListN.{length, getD, take};
 ghost use Rattle.io.specs.Counts.{Counts};
 ghost use Rattle.study.specs.Study.{Study};
 ghost use Rattle.study.specs.Reading.{reading, says};
-ghost use Rattle.plan.specs.Text.{shownOf, planText};
+ghost use Rattle.telling.specs.Text.{shownOf, planText};
 ghost use Rattle.plan.specs.Printed.{Printed};
 use libc::STDIN_FILENO;
 use libc::STDOUT_FILENO;
@@ -36,7 +33,7 @@ fn tell(file: &[u8], out: &mut [u8]) -> usize
     let mut plan = [0u8; 256];
     let answer = planner::plan_seeded(file, &mut plan);
     if answer.number != 0 {
-        return lines::refused(answer, out);
+        return telling::refused(answer, out);
     }
     let n = answer.first as usize;
     tell_plan(file, &plan[..n], out)
@@ -49,26 +46,9 @@ fn tell_plan(file: &[u8], plan: &[u8], out: &mut [u8]) -> usize
         → ((k : ℕ) → k < length (now (plan .entry)) → getD (now (plan .entry)) k 0 < length (t .actions))
         → take r (now (out .exit)) ≡ planText (shownOf (t .actions)) (now (plan .entry))) ⌝ }
 {
-    let mut counts = [0u8; 32];
+    let mut acts = [[0u8; 6]; 256];
+    let mut vars = [[0u8; 3]; 32];
     let mut setters = [0u8; 512];
-    let mut vars = [0u8; 256];
-    let mut pres = [0u8; 256];
-    let mut posts = [0u8; 256];
-    let mut places = [0u16; 256];
-    let mut manys = [0u8; 256];
-    let mut starts = [0u8; 32];
-    let mut goals = [0u8; 32];
-    loader::load(
-        file,
-        &mut counts,
-        &mut setters,
-        &mut vars,
-        &mut pres,
-        &mut posts,
-        &mut places,
-        &mut manys,
-        &mut starts,
-        &mut goals,
-    );
-    lines::plan(plan, &vars, &pres, &posts, out)
+    loader::load(file, &mut acts, &mut vars, &mut setters);
+    telling::plan(plan, &acts, out)
 }

@@ -4,7 +4,7 @@ use Prim.Native.Nat.{ℕ, _≤_, _<_}
 use mathlib.Core.Path.{_≡_}
 use mathlib.Core.List.{List, _++_}
 use lib.ListN.{length, getD, drop}
-use Rattle.answer.specs.Answers.{three, done, refusal}
+use Rattle.answer.specs.Answers.{done, refusal}
 use Rattle.answer.specs.Allowing.{Allowing, Exactly}
 use Rattle.answer.specs.declared.Answer.{Answer}
 use Rattle.ranking.specs.Ranking.{tested}
@@ -13,6 +13,7 @@ use Rattle.study.specs.Study.{Study}
 use Rattle.study.specs.Reading.{Said, says, refused, reading}
 use Rattle.plans.specs.Plans.{StraightPlan}
 use Rattle.orders.specs.Orders.{OnRing, Behind, Counted, First}
+use Rattle.planning.specs.Refusals.{notRanked, withoutWalk, offWalk, withRing, shortBuffer}
 use Rattle.walks.specs.Walks.{Walk, OnAWalk, ValueOnWalk, Wants, ComesBefore, Walks, Met, conditionsOf}
 
 -- 10: v is the lowest variable that has no walk
@@ -45,18 +46,18 @@ pub record FirstPlan (t : Study) (ranks list : List ℕ) : Type 0 where
 
 -- what planning a study with a rank list may answer, and the buffer afterwards
 pub data Plans (t : Study) (ranks before : List ℕ) : Answer → List ℕ → Type 0 where
-  wrong-length : tested ranks (length (t .actions)) ≡ Length → Plans t ranks before (three 9 (length ranks) 1) before
-  wrong-entry : {k : ℕ} → tested ranks (length (t .actions)) ≡ Entry k → Plans t ranks before (refusal 9 k) before
-  no-walk : {v : ℕ} → tested ranks (length (t .actions)) ≡ Fine → LowestWithout t v → Plans t ranks before (refusal 10 v) before
-  off-walk : {i u : ℕ} → tested ranks (length (t .actions)) ≡ Fine → Walks t → LowestOff t i u → Plans t ranks before (three 11 i u) before
+  wrong-length : tested ranks (length (t .actions)) ≡ Length → Plans t ranks before (notRanked (length ranks) Length) before
+  wrong-entry : {k : ℕ} → tested ranks (length (t .actions)) ≡ Entry k → Plans t ranks before (notRanked (length ranks) (Entry k)) before
+  no-walk : {v : ℕ} → tested ranks (length (t .actions)) ≡ Fine → LowestWithout t v → Plans t ranks before (withoutWalk v) before
+  off-walk : {i u : ℕ} → tested ranks (length (t .actions)) ≡ Fine → Walks t → LowestOff t i u → Plans t ranks before (offWalk i u) before
   ring :
       {n x : ℕ} → tested ranks (length (t .actions)) ≡ Fine → Walks t → Met t
       → OnRing (OnAWalk t) (ComesBefore t) x
       → FreeOfRings t n
-      → Plans t ranks before (refusal 12 n) before
+      → Plans t ranks before (withRing n) before
   no-room :
       {list : List ℕ} → tested ranks (length (t .actions)) ≡ Fine → FirstPlan t ranks list → length before < length list
-      → Plans t ranks before (refusal 13 (length list)) before
+      → Plans t ranks before (shortBuffer (length list)) before
   a-plan :
       {list : List ℕ} → tested ranks (length (t .actions)) ≡ Fine → FirstPlan t ranks list → length list ≤ length before
       → Plans t ranks before (done (length list) 0) (list ++ drop (length list) before)

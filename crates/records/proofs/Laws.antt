@@ -11,7 +11,7 @@ use lib.ListN.{length, getD}
 use borrow.Author.Tests.{lt-ltb, le-ltb, le-leb, lt-leb}
 use types.Run.{OneOf}
 use denote.Enum.Declared.{tagOf}
-use Rattle.records.specs.Records.{bodyLength, bodyLengths, recordOf, recordAt, part, startOf, nextOf}
+use Rattle.records.specs.Records.{bodyLength, bodyLengths, bodied, recordOf, recordAt, part, startOf, nextOf}
 use Rattle.records.specs.declared.Found.{Found}
 use Rattle.records.proofs.Found.{the-type}
 use Rattle.records.specs.declared.Found.the-variants.{There, Unknown, Cut, Ended}
@@ -45,6 +45,10 @@ module _ (file : List ℕ) (at : ℕ) where
     pub record-unknown-high : 1 ≤ getD file at 0 → 6 < getD file at 0 → recordAt file at ≡ Unknown at
     unfolding recordOf
     record-unknown-high l h = rw (of-its-kind, le-leb 1 (getD file at 0) l, lt-leb (getD file at 0) 6 h)
+
+    pub record-of-kind : (kind : ℕ) → getD file at 0 ≡ kind → 1 ≤ kind → kind ≤ 6 → recordAt file at ≡ bodied (length file) at kind (bodyLength kind)
+    unfolding recordOf
+    record-of-kind kind e low high = rw (of-its-kind, e, le-leb 1 kind low, le-leb kind 6 high)
 
     module _ (low : 1 ≤ getD file at 0) (high : getD file at 0 ≤ 6) where
       pub record-there :

@@ -20,12 +20,13 @@ bodyLength kind = getD bodyLengths kind 0
 abbrev pub known : ℕ → Bool
 known kind = leb 1 kind && leb kind 6
 
+-- a record of this kind at a place, its body so long: whole, or cut by the file's end
+abbrev pub bodied : ℕ → ℕ → ℕ → ℕ → Found
+bodied len at kind body = pick (leb (at + 1 + body) len) (There kind (at + 1) (at + 1 + body)) (Cut kind at)
+
 -- a record of this kind at a place inside the file
 unfoldable pub recordOf : List ℕ → ℕ → ℕ → Found
-recordOf file at kind =
-    pick (known kind)
-    (pick (leb (at + 1 + bodyLength kind) (length file)) (There kind (at + 1) (at + 1 + bodyLength kind)) (Cut kind at))
-    (Unknown at)
+recordOf file at kind = pick (known kind) (bodied (length file) at kind (bodyLength kind)) (Unknown at)
 
 -- the record at a place: there, of an unknown kind, cut by the file's end, or none since the file has ended
 unfoldable pub recordAt : List ℕ → ℕ → Found

@@ -1,7 +1,7 @@
 // Reads one record of a study file: any bytes, any place.
 ghost use mathlib.Core.Path.{_≡_};
 ghost use Prim.Native.Nat.{_<_};
-ghost use Rattle.records.specs.Records.{recordAt, bodyAt, bodyLength};
+ghost use Rattle.records.specs.Records.{recordAt, bodyAt, bodied};
 
 // What stands at a place of a file.
 pub enum Found {
@@ -15,17 +15,24 @@ pub enum Found {
     Ended { place: usize },
 }
 
-// Body lengths by kind.
-const LENGTHS: [u8; 7] = [0, 1, 3, 2, 3, 4, 0];
-
-fn length_of(kind: u8) -> usize
-    requires { ⌜ kind < 7 ⌝ }
-    ensures { λ r. ⌜ r ≡ bodyLength kind ⌝ }
+// A record of a kind whose body has so many bytes: whole, or cut by the file's end.
+fn with_body(len: usize, at: usize, kind: u8, body: usize) -> Found
+    requires { ⌜ at < len ⌝ }
+    ensures { λ r. ⌜ r ≡ bodied len at kind body ⌝ }
 {
-    let length = LENGTHS[kind as usize];
-    length as usize
+    let start = at + 1;
+    if body <= len - start {
+        Found::There {
+            kind,
+            start,
+            next: start + body,
+        }
+    } else {
+        Found::Cut { kind, place: at }
+    }
 }
 
+// Each kind has its own call, so that who reads on by the kind need not test it again.
 pub fn record_at(file: &[u8], at: usize) -> Found
     ensures { λ r. ⌜ r ≡ recordAt (now (file .entry)) at ⌝ }
 {
@@ -34,18 +41,14 @@ pub fn record_at(file: &[u8], at: usize) -> Found
         return Found::Ended { place: len };
     }
     let kind = file[at];
-    if kind < 1 {
-        return Found::Unknown { place: at };
-    }
-    if 6 < kind {
-        return Found::Unknown { place: at };
-    }
-    let start = at + 1;
-    let next = start + length_of(kind);
-    if next <= len {
-        Found::There { kind, start, next }
-    } else {
-        Found::Cut { kind, place: at }
+    match kind {
+        1 => with_body(len, at, 1, 1),
+        2 => with_body(len, at, 2, 3),
+        3 => with_body(len, at, 3, 2),
+        4 => with_body(len, at, 4, 3),
+        5 => with_body(len, at, 5, 4),
+        6 => with_body(len, at, 6, 0),
+        _ => Found::Unknown { place: at },
     }
 }
 

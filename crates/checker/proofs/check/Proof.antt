@@ -1,7 +1,7 @@
 -- `checker::check` meets its contract: its tables are as long as their types say, so what is loaded is what the file says.
 -- Assumes nothing.
 use borrow.Author.Needs.{needs}
-use Rattle.loader.proofs.Fresh.{fresh-sized}
+use Rattle.tables.proofs.Fresh.{fresh-sized}
 use Rattle.checker.proofs.check.Statement.{statement}
 use Rattle.checker.proofs.check.Tie as tie
 
@@ -14,8 +14,8 @@ enum-known-loaded c = search needs
 enum-known-loaded-2 : tie.Need-enum-known-loaded-2
 enum-known-loaded-2 c = search needs
 
-cast-t28 : tie.Need-cast-t28
-cast-t28 c = search needs
+cast-t18 : tie.Need-cast-t18
+cast-t18 c = search needs
 
 returns : tie.Need-returns
 returns c =
@@ -32,4 +32,4 @@ returns-2 c =
 pub check-spec : {M : Type 1} → statement M
 check-spec =
     tie.close
-    (tie.spec load-requires enum-known-loaded enum-known-loaded-2 cast-t28 returns returns-2)
+    (tie.spec load-requires enum-known-loaded enum-known-loaded-2 cast-t18 returns returns-2)

@@ -1,39 +1,78 @@
--- `loader::load` meets its contract: what holds at the start is carried through the sections, and on to the end.
+-- `loader::load` meets its contract: each turn takes one record, and after an action its conditions, further down the file, and what is still to be read goes on from there.
 -- Assumes nothing.
+use Prim.Native.Nat.{_-_}
+use native.Mathlib.Omega.{arith}
+use mathlib.Core.Path.{refl}
+use lib.ListN.{length, replicate}
+use Rattle.tables.specs.Tables.{Sized}
+use Rattle.tables.specs.Rows.{countColumn, seenAll}
+use Rattle.loader.specs.Reads.{Safe, Halfway}
+use Rattle.loader.proofs.Pass.{begins, goes-on, refuses, ends}
 use borrow.Author.Needs.{needs}
-use Rattle.loader.proofs.Pass.{begins}
+use borrow.Author.Needs.{needs}
 use Rattle.loader.proofs.load.Statement.{statement}
 use Rattle.loader.proofs.load.Tie as tie
 
-variables-requires : tie.Need-variables-requires
-variables-requires c κs = search needs
+abbrev Inv-loop : tie.InvT-loop
+Inv-loop file acts₀ vars₀ setters₀ marks₀ p₀ acts vars setters marks p =
+    Safe file p (countColumn vars)
+    × (Sized (seenAll acts₀ vars₀ setters₀) → Halfway file (seenAll acts vars setters) marks p)
 
-rest-requires : tie.Need-rest-requires
-rest-requires c κs = search needs
+abbrev μ-loop : tie.MeasureT-loop
+μ-loop file acts₀ vars₀ setters₀ marks₀ p₀ acts vars setters marks p = length file - p .at
 
-returns : tie.Need-returns
+loop-holds : tie.Need-loop-holds Inv-loop μ-loop
+loop-holds c = (search needs, λ sized. begins _ sized)
+
+step-requires : tie.Need-step-requires Inv-loop μ-loop
+step-requires c κs = c .before .before .before .before .loop .inv .0
+
+enum-known-taken : tie.Need-enum-known-taken Inv-loop μ-loop
+enum-known-taken c = search needs
+
+with-conditions-requires : tie.Need-with-conditions-requires Inv-loop μ-loop
+with-conditions-requires c κs = (rw (c .before .before .before .taken .given .1) at (c .before .before .before .before .before .step .ensures .0)) .1
+
+loop-less : tie.Need-loop-less Inv-loop μ-loop
+loop-less c =
+    let f = rw (c .before .before .before .before .taken .given .1) at (c .before .before .before .before .before .before .step .ensures .0) in
+    omega (arith, f .0, c .with-conditions .ensures .0 .1, c .with-conditions .ensures .0 .0 .inside)
+
+loop-again : tie.Need-loop-again Inv-loop μ-loop
+loop-again c =
+    let i = c .before .before .before .before .before .before .before .before .before .before .before .loop .inv in
+    let a = rw (c .before .before .before .before .taken .given .1) at (c .before .before .before .before .before .before .step .ensures) in
+    (c .with-conditions .ensures .0 .0, λ sized. c .with-conditions .ensures .1 _ _ (goes-on (i .0) (i .1 sized) a))
+
+enum-known-taken-2 : tie.Need-enum-known-taken-2 Inv-loop μ-loop
+enum-known-taken-2 c = search needs
+
+returns : tie.Need-returns Inv-loop μ-loop
 returns c =
-    let v = c .before .before .before .before .before .before .before .before .before .before .before .before in
-    λ sized. c .rest .ensures (v .variables .ensures .1 .1 _ _ _ (begins _ sized))
+    let i = c .before .before .before .before .before .before .before .before .loop .inv in
+    λ sized. refuses (i .0) (i .1 sized) (rw (c .before .taken2 .given .1) at (c .before .before .before .step .ensures))
 
-actions-requires : tie.Need-actions-requires
-actions-requires c κs =
-    let e = c .before .before .before .before .before .before .before in
-    let v = e .before .before in
-    (v .variables .ensures .0, (e .if1 .left, search needs))
+enum-known-taken-3 : tie.Need-enum-known-taken-3 Inv-loop μ-loop
+enum-known-taken-3 c = search needs
 
-tasks-requires : tie.Need-tasks-requires
-tasks-requires c κs = search needs
-
-rest-requires-2 : tie.Need-rest-requires-2
-rest-requires-2 c κs = search needs
-
-returns-2 : tie.Need-returns-2
+returns-2 : tie.Need-returns-2 Inv-loop μ-loop
 returns-2 c =
-    let t = c .before .before .before .before .before .before .before .before .before .before in
-    let a = t .before .before .before .before in
-    let v = a .before .before .before .before .before .before .before .before .before .before in
-    λ sized. c .rest2 .ensures (t .tasks .ensures .1 _ (a .actions .ensures .1 .1 _ _ (v .variables .ensures .1 .1 _ _ _ (begins _ sized))))
+    let i = c .before .before .before .before .before .before .before .before .loop .inv in
+    λ sized. ends (i .0) (i .1 sized) _ (c .before .taken3 .given .0 .0) (rw (c .before .taken3 .given .1) at (c .before .before .before .step .ensures))
 
 pub load-spec : {M : Type 1} → statement M
-load-spec = tie.close (tie.spec variables-requires rest-requires returns actions-requires tasks-requires rest-requires-2 returns-2)
+load-spec =
+    tie.close
+    (tie.spec
+    Inv-loop
+    μ-loop
+    loop-holds
+    step-requires
+    enum-known-taken
+    with-conditions-requires
+    loop-less
+    loop-again
+    enum-known-taken-2
+    returns
+    enum-known-taken-3
+    returns-2)

@@ -2,8 +2,8 @@
 -- Assumes nothing.
 use native.Mathlib.Omega.{arith}
 use Rattle.io.proofs.Counting.{counts}
-use Rattle.loader.specs.Tables.{tables, actionTables}
-use Rattle.loader.proofs.Fresh.{fresh-sized}
+use Rattle.tables.specs.Rows.{seenAll}
+use Rattle.tables.proofs.Fresh.{fresh-sized}
 use Rattle.plan.proofs.Planned.{loaded-text}
 use borrow.Author.Needs.{needs}
 use Rattle.plan.proofs.tell_plan.Statement.{statement}
@@ -21,13 +21,10 @@ same-length c = search needs
 returns : tie.Need-returns
 returns c =
     let p = c .before .before in
-    let start = p .before .before .before .before .before .before .before .before .before .before .before .before .before .before .before .before .before .before in
-    let l = p .before .before .before .before .before in
-    let held =
-    tables (l .load .last .1 .0)
-    (actionTables (l .load .last .1 .1 .0) (l .load .last .1 .1 .1 .0) (l .load .last .1 .1 .1 .1 .0) (l .load .last .1 .1 .1 .1 .1 .0) (l .load .last .1 .1 .1 .1 .1 .1 .0) (l .load .last .1 .1 .1 .1 .1 .1 .1 .0))
-    (l .load .last .1 .1 .1 .1 .1 .1 .1 .1 .0) (l .load .last .1 .1 .1 .1 .1 .1 .1 .1 .1 .0) in (
-      counts _ _ (omega (arith, p .plan .kept .1 .1 .1 .1 .0)),
+    let start = c .before .before .before .before .before .before .before .before .before .before .before .before in
+    let l = c .before .before .before .before .before in
+    let held = seenAll (l .load .last .1 .0) (l .load .last .1 .1 .0) (l .load .last .1 .1 .1 .0) in (
+      counts _ _ (omega (arith, p .plan .kept .1 .1 .0)),
       λ t said usable. loaded-text (start .args .file .now) (start .args .plan .now) t held (l .load .result) (l .load .ensures fresh-sized) said usable (p .plan .ensures .1),
     )
 

@@ -1,9 +1,10 @@
 -- `planner::plan` meets its contract: what is loaded is what the file says, and its tables are given to planning.
 -- Assumes nothing.
 use mathlib.Core.Path.{refl, sym, ap, _∙_}
-use Rattle.loader.proofs.Fresh.{fresh-sized}
-use Rattle.planner.specs.Whole.{notLoaded}
-use Rattle.planner.proofs.Stages.{loaded-known, known-given, not-ranked}
+use Rattle.tables.proofs.Fresh.{fresh-sized}
+use Rattle.tables.specs.Numbers.{notLoaded}
+use Rattle.stages.proofs.Stages.{known-given, not-ranked}
+use Rattle.planner.proofs.Loading.{loaded-known}
 use borrow.Author.Needs.{needs}
 use Rattle.planner.proofs.plan.Statement.{statement}
 use Rattle.planner.proofs.plan.Tie as tie
@@ -37,22 +38,31 @@ unranked-requires c κs = search needs
 
 returns-2 : tie.Need-returns-2
 returns-2 c =
-    let (t, said, holds) = rw (c .before .before .before .before .found .given .1) at (c .before .before .before .before .before .before .load .ensures fresh-sized) in
+    let e = c .before .before in
+    let f = e .before .before in
+    let (t, said, holds) = rw (f .found .given .1) at (f .before .before .load .ensures fresh-sized) in
     rw (said, c .unranked .ensures)
-    (not-ranked (c .before .before .test .result) (rw (← holds .actions .count) (sym (c .before .before .test .ensures))) (c .before .match2 .keys2))
+    (not-ranked (e .test .result) (rw (← holds .actions .count) (sym (e .test .ensures))) (c .before .match2 .keys2))
 
 plan-loaded-requires : tie.Need-plan-loaded-requires
 plan-loaded-requires c κs =
-    let (t, said, holds) = rw (c .before .before .before .before .before .before .before .before .before .before .before .before .before .found .given .1) at (c .before .before .before .before .before .before .before .before .before .before .before .before .before .before .before .load .ensures fresh-sized) in
-    (holds .sized .starts, (t, known-given _ (loaded-known said holds) (sym (c .before .before .before .before .before .before .before .before .before .before .before .test .ensures) ∙ c .before .before .before .before .before .before .before .before .before .enum-told2 .given .1)))
+    let r = c .before .before .before .before in
+    let e = r .before .before in
+    let f = e .before .before in
+    let (t, said, holds) = rw (f .found .given .1) at (f .before .before .load .ensures fresh-sized) in
+    (t, known-given _ (loaded-known said holds) (sym (e .test .ensures) ∙ r .enum-told2 .given .1))
 
 same-length : tie.Need-same-length
 same-length c = search needs
 
 returns-3 : tie.Need-returns-3
 returns-3 c =
-    let (t, said, holds) = rw (c .before .before .before .before .before .before .before .before .before .before .before .before .before .before .before .before .found .given .1) at (c .before .before .before .before .before .before .before .before .before .before .before .before .before .before .before .before .before .before .load .ensures fresh-sized) in
-    rw said (c .before .before .plan-loaded .ensures t (known-given _ (loaded-known said holds) (sym (c .before .before .before .before .before .before .before .before .before .before .before .before .before .before .test .ensures) ∙ c .before .before .before .before .before .before .before .before .before .before .before .before .enum-told2 .given .1)))
+    let p = c .before .before in
+    let r = p .before .before .before .before .before in
+    let e = r .before .before in
+    let f = e .before .before in
+    let (t, said, holds) = rw (f .found .given .1) at (f .before .before .load .ensures fresh-sized) in
+    rw said (p .plan-loaded .ensures t (known-given _ (loaded-known said holds) (sym (e .test .ensures) ∙ r .enum-told2 .given .1)))
 
 pub plan-spec : {M : Type 1} → statement M
 plan-spec =

@@ -1,10 +1,9 @@
 -- `planner::plan_seeded` meets its contract: what is loaded is what the file says, and its tables and seed are given to planning.
 -- Assumes nothing.
 use mathlib.Core.Path.{refl, ap, _∙_}
-use Rattle.loader.proofs.Fresh.{fresh-sized}
-use Rattle.planner.specs.Whole.{notLoaded}
-use Rattle.planner.proofs.Drawing.{seeded-plans}
-use Rattle.planner.proofs.Stages.{loaded-known}
+use Rattle.tables.proofs.Fresh.{fresh-sized}
+use Rattle.tables.specs.Numbers.{notLoaded}
+use Rattle.planner.proofs.Loading.{loaded-known, seeded-plans}
 use borrow.Author.Needs.{needs}
 use Rattle.planner.proofs.plan_seeded.Statement.{statement}
 use Rattle.planner.proofs.plan_seeded.Tie as tie
@@ -29,16 +28,19 @@ returns c =
 
 plan-drawn-requires : tie.Need-plan-drawn-requires
 plan-drawn-requires c κs =
-    let (t, said, holds) = rw (c .before .before .before .before .before .before .before .before .before .before .found .given .1) at (c .before .before .before .before .before .before .before .before .before .before .before .before .load .ensures fresh-sized) in
-    (holds .sized .starts, (t, loaded-known said holds))
+    let f = c .before .before .before .before .before in
+    let (t, said, holds) = rw (f .found .given .1) at (f .before .before .load .ensures fresh-sized) in
+    (t, loaded-known said holds)
 
 same-length : tie.Need-same-length
 same-length c = search needs
 
 returns-2 : tie.Need-returns-2
 returns-2 c =
-    let (t, said, holds) = rw (c .before .before .before .before .before .before .before .before .before .before .before .before .before .found .given .1) at (c .before .before .before .before .before .before .before .before .before .before .before .before .before .before .before .load .ensures fresh-sized) in
-    seeded-plans _ said (holds .seed) (holds .actions .count) (c .before .before .plan-drawn .ensures t (loaded-known said holds))
+    let p = c .before .before in
+    let f = p .before .before .before .before .before .before in
+    let (t, said, holds) = rw (f .found .given .1) at (f .before .before .load .ensures fresh-sized) in
+    seeded-plans _ said (holds .seed) (holds .actions .count) (p .plan-drawn .ensures t (loaded-known said holds))
 
 pub plan-seeded-spec : {M : Type 1} → statement M
 plan-seeded-spec =

@@ -1,7 +1,7 @@
 -- `running::run` meets its contract: its tables are as long as their types say, so what is loaded is what the file says.
 -- Assumes nothing.
 use borrow.Author.Needs.{needs}
-use Rattle.loader.proofs.Fresh.{fresh-sized}
+use Rattle.tables.proofs.Fresh.{fresh-sized}
 use Rattle.running.proofs.run.Statement.{statement}
 use Rattle.running.proofs.run.Tie as tie
 
@@ -9,7 +9,7 @@ load-requires : tie.Need-load-requires
 load-requires c κs = search needs
 
 run-loaded-requires : tie.Need-run-loaded-requires
-run-loaded-requires c κs = (_, _, c .before .before .before .before .before .before .before .before .load .ensures fresh-sized)
+run-loaded-requires c κs = (_, c .before .before .before .load .ensures fresh-sized)
 
 same-length : tie.Need-same-length
 same-length c = search needs

@@ -1,22 +1,25 @@
 -- `loader::pace::step` meets its contract: a record that is there and may come is taken, any other is refused.
 -- Assumes nothing.
 use mathlib.Core.Path.{_≡_, sym, _∙_}
+use mathlib.Core.List.{List}
+use Prim.Native.Nat.{ℕ}
 use denote.Ref.{now}
-use borrow.Author.Needs.{needs}
 use Rattle.records.specs.Records.{recordAt}
 use Rattle.records.specs.declared.Found.the-variants.{There}
-use Rattle.loader.specs.Tables.{Tables, tables, actionTables}
-use Rattle.loader.proofs.Tests.{not-taken, not-left}
 use Rattle.study.proofs.Verdicts.{verdict-not-allowed}
+use Rattle.tables.specs.Tables.{Tables}
+use Rattle.tables.specs.Rows.{seenAll}
+use Rattle.judging.proofs.Tests.{not-taken, not-left}
 use Rattle.loader.proofs.Arms.{allowed-is, not-there-arm}
+use borrow.Author.Needs.{needs}
 use Rattle.loader.proofs.pace.step.Statement.{statement}
 use Rattle.loader.proofs.pace.step.Tie as tie
 
 abbrev held : tie.Start → Tables
-held s =
-    tables (now (s .args .counts))
-    (actionTables (now (s .args .setters)) (now (s .args .vars)) (now (s .args .pres)) (now (s .args .posts)) (now (s .args .places)) (now (s .args .manys)))
-    (now (s .args .starts)) (now (s .args .goals))
+held s = seenAll (now (s .args .acts)) (now (s .args .vars)) (now (s .args .setters))
+
+abbrev marked : tie.Start → List ℕ
+marked s = now (s .args .marks)
 
 is-there :
     (c : tie.After-found)
@@ -36,21 +39,18 @@ not-there-requires c κs = search needs
 returns : tie.Need-returns
 returns c =
     let s = c .before .before .before .before in
-    rw (c .not-there .ensures) (not-there-arm (now (s .args .file)) (s .args .p) (held s) _ (sym (c .before .before .record-from .ensures)) (c .before .match .keys2))
+    rw (c .not-there .ensures) (not-there-arm (now (s .args .file)) (s .args .p) (held s) (marked s) _ (sym (c .before .before .record-from .ensures)) (c .before .match .keys2))
 
 may-follow-requires : tie.Need-may-follow-requires
 may-follow-requires c κs = search needs
 
 returns-2 : tie.Need-returns-2
 returns-2 c =
-    let f = c .before .before .before .before in
-    (tt, λ d s. verdict-not-allowed _ _ d (is-there f) (allowed-is s _ ∙ not-taken (c .before .may-follow .ensures) (c .if1 .taken)))
+    (tt, λ d s. verdict-not-allowed _ _ d (is-there (c .before .before .before .before)) (allowed-is s _ ∙ not-taken (c .before .may-follow .ensures) (c .if1 .taken)))
 
 take-requires : tie.Need-take-requires
 take-requires c κs =
-    let e = c .before .before .before .before .before .before .before .before .before in
-    let f = e .before .before .before .before in
-    (f .before .before .before .before .pre, (is-there f, not-left (e .before .may-follow .ensures) (e .if1 .left)))
+    (c .before .before .before .before .before .before .before .before .before .before .before .before .pre, (_, is-there (c .before .before .before .before .before .before .before .before), not-left (c .before .before .before .before .before .may-follow .ensures) (c .before .before .before .before .if1 .left)))
 
 returns-3 : tie.Need-returns-3
 returns-3 c = search needs

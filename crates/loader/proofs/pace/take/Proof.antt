@@ -1,56 +1,61 @@
 -- `loader::pace::take` meets its contract: the kind says which arm of `Arms` answers.
 -- Assumes nothing.
 use mathlib.Core.Path.{_≡_, refl}
+use mathlib.Core.Bool.{true}
+use mathlib.Core.List.{List}
 use Prim.Native.Nat.{ℕ, _+_, _≤_}
 use native.Mathlib.Omega.{arith}
+use lib.Dec.{ltb}
 use lib.ListN.{length}
 use denote.Ref.{now}
-use borrow.Author.Needs.{needs}
-use mathlib.Core.Bool.{true}
-use lib.Dec.{ltb}
 use Rattle.records.specs.Records.{recordAt, bodyLength, bodyLengths}
 use Rattle.records.specs.declared.Found.the-variants.{There}
 use Rattle.records.proofs.Laws.{there-lies}
 use Rattle.study.specs.Reading.{mayFollow}
-use Rattle.loader.specs.Tables.{Tables, tables, actionTables}
-use Rattle.loader.proofs.Arms.{body-inside, action-place, condition-action, variable-arm, action-arm, condition-arm, task-arm, seed-arm, end-arm}
+use Rattle.tables.specs.Tables.{Tables}
+use Rattle.tables.specs.Rows.{seenAll}
+use Rattle.loader.proofs.Arms.{body-inside, where-it-ends, action-place, condition-action, variable-arm, action-arm, condition-arm, task-arm, seed-arm, end-arm}
+use borrow.Author.Needs.{needs}
 use Rattle.loader.proofs.pace.take.Statement.{statement}
 use Rattle.loader.proofs.pace.take.Tie as tie
 
 abbrev held : tie.Start → Tables
-held s =
-    tables (now (s .args .counts))
-    (actionTables (now (s .args .setters)) (now (s .args .vars)) (now (s .args .pres)) (now (s .args .posts)) (now (s .args .places)) (now (s .args .manys)))
-    (now (s .args .starts)) (now (s .args .goals))
+held s = seenAll (now (s .args .acts)) (now (s .args .vars)) (now (s .args .setters))
 
-is-there : (s : tie.Start) (k : ℕ) → s .args .kind ≡ k → recordAt (now (s .args .file)) (s .args .p .at) ≡ There k (s .args .start) (s .args .next)
-is-there s k e = rw e at (s .pre .1 .0)
+abbrev marked : tie.Start → List ℕ
+marked s = now (s .args .marks)
+
+is-there : (s : tie.Start) (k : ℕ) → s .args .kind ≡ k → recordAt (now (s .args .file)) (s .args .p .at) ≡ There k (s .args .start) (s .args .start + bodyLength k)
+is-there s k e = where-it-ends _ _ (rw e at (s .pre .1 .1))
 
 may-come : (s : tie.Start) (k : ℕ) → s .args .kind ≡ k → mayFollow (ltb (s .args .p .tasks) (s .args .p .vars)) (s .args .p .last) k ≡ true
-may-come s k e = rw e at (s .pre .1 .1)
+may-come s k e = rw e at (s .pre .1 .2)
 
 inside-1 : (c : tie.At-match-keys1) → c .before .before .args .start + 1 ≤ length (now (c .before .before .args .file))
 unfolding bodyLength bodyLengths
-inside-1 c = body-inside _ _ (c .before .before .pre .1 .0) 1 (c .match .keys1)
+inside-1 c = body-inside _ _ (c .before .before .pre .1 .1) 1 (c .match .keys1)
 
 inside-2 : (c : tie.At-match-keys2) → c .before .before .args .start + 3 ≤ length (now (c .before .before .args .file))
 unfolding bodyLength bodyLengths
-inside-2 c = body-inside _ _ (c .before .before .pre .1 .0) 2 (c .match .keys2)
+inside-2 c = body-inside _ _ (c .before .before .pre .1 .1) 2 (c .match .keys2)
 
 inside-3 : (c : tie.At-match-keys3) → c .before .before .args .start + 2 ≤ length (now (c .before .before .args .file))
 unfolding bodyLength bodyLengths
-inside-3 c = body-inside _ _ (c .before .before .pre .1 .0) 3 (c .match .keys3)
+inside-3 c = body-inside _ _ (c .before .before .pre .1 .1) 3 (c .match .keys3)
 
 inside-4 : (c : tie.At-match-keys4) → c .before .before .args .start + 3 ≤ length (now (c .before .before .args .file))
 unfolding bodyLength bodyLengths
-inside-4 c = body-inside _ _ (c .before .before .pre .1 .0) 4 (c .match .keys4)
+inside-4 c = body-inside _ _ (c .before .before .pre .1 .1) 4 (c .match .keys4)
 
 inside-5 : (c : tie.At-match-keys5) → c .before .before .args .start + 4 ≤ length (now (c .before .before .args .file))
 unfolding bodyLength bodyLengths
-inside-5 c = body-inside _ _ (c .before .before .pre .1 .0) 5 (c .match .keys5)
+inside-5 c = body-inside _ _ (c .before .before .pre .1 .1) 5 (c .match .keys5)
 
 shared-slice-read-on-variable : tie.Need-shared-slice-read-on-variable
 shared-slice-read-on-variable c = omega (arith, inside-1 (c .before))
+
+add-on-variable : tie.Need-add-on-variable
+add-on-variable c = omega (arith, inside-1 (c .before))
 
 on-variable-requires : tie.Need-on-variable-requires
 on-variable-requires c κs = search needs
@@ -70,12 +75,16 @@ add-on-action-2 c = omega (arith, inside-2 (c .before .before))
 shared-slice-read-on-action-3 : tie.Need-shared-slice-read-on-action-3
 shared-slice-read-on-action-3 c = omega (arith, inside-2 (c .before .before .before))
 
+add-on-action-3 : tie.Need-add-on-action-3
+add-on-action-3 c = omega (arith, inside-2 (c .before .before .before))
+
 on-action-requires : tie.Need-on-action-requires
+unfolding bodyLength bodyLengths
 on-action-requires c κs =
-    let m = c .before .before .before .before .before .before .before .before .before .before in
+    let m = c .before .before .before .before .before .before .before in
     let s = m .before .before in
     let safe = s .pre .0 in
-    (safe .few-vars, safe .small, action-place _ _ _ _ (held s) safe (is-there s 2 (m .match .keys2)) (may-come s 2 (m .match .keys2)))
+    (safe .few-vars, safe .small, action-place _ _ _ _ (held s) (marked s) safe (is-there s 2 (m .match .keys2)) (may-come s 2 (m .match .keys2)))
 
 shared-slice-read-on-condition : tie.Need-shared-slice-read-on-condition
 shared-slice-read-on-condition c = omega (arith, inside-3 (c .before))
@@ -86,12 +95,15 @@ add-on-condition c = omega (arith, inside-3 (c .before))
 shared-slice-read-on-condition-2 : tie.Need-shared-slice-read-on-condition-2
 shared-slice-read-on-condition-2 c = omega (arith, inside-3 (c .before .before))
 
+add-on-condition-2 : tie.Need-add-on-condition-2
+add-on-condition-2 c = omega (arith, inside-3 (c .before .before))
+
 on-condition-requires : tie.Need-on-condition-requires
 on-condition-requires c κs =
     let m = c .before .before .before .before in
     let s = m .before .before in
     let safe = s .pre .0 in
-    (safe .few-vars, omega (arith, safe .fewer, safe .low), condition-action _ _ (s .args .start) (s .args .next) (held s) safe (may-come s 3 (m .match .keys3)), safe .few-actions)
+    (safe .few-vars, omega (arith, safe .fewer, safe .low), condition-action _ _ (s .args .start) 0 (held s) (marked s) safe (may-come s 3 (m .match .keys3)), safe .few-actions)
 
 shared-slice-read-on-task : tie.Need-shared-slice-read-on-task
 shared-slice-read-on-task c = omega (arith, inside-4 (c .before))
@@ -107,6 +119,9 @@ add-on-task-2 c = omega (arith, inside-4 (c .before .before))
 
 shared-slice-read-on-task-3 : tie.Need-shared-slice-read-on-task-3
 shared-slice-read-on-task-3 c = omega (arith, inside-4 (c .before .before .before))
+
+add-on-task-3 : tie.Need-add-on-task-3
+add-on-task-3 c = omega (arith, inside-4 (c .before .before .before))
 
 on-task-requires : tie.Need-on-task-requires
 on-task-requires c κs = search needs
@@ -135,6 +150,9 @@ shared-slice-read-seed-of-4 c = omega (arith, inside-5 (c .before .before .befor
 seed-of-requires : tie.Need-seed-of-requires
 seed-of-requires c κs = search needs
 
+add-on-seed : tie.Need-add-on-seed
+add-on-seed c = omega (arith, inside-5 (c .before .before .before .before .before))
+
 on-seed-requires : tie.Need-on-seed-requires
 on-seed-requires c κs = search needs
 
@@ -142,71 +160,82 @@ on-end-requires : tie.Need-on-end-requires
 on-end-requires c κs = search needs
 
 returns : tie.Need-returns
+unfolding bodyLength bodyLengths
 returns c =
     let m = c .before .before .before in
     let s = m .before .before in
-    rw (c .on-variable .ensures .0, c .on-variable .ensures .1)
-    (variable-arm _ _ _ _ (held s) (s .pre .0) (is-there s 1 (m .match .keys1)) (may-come s 1 (m .match .keys1)) _ refl)
+    rw (c .on-variable .ensures .0, c .on-variable .ensures .1 .0, c .on-variable .ensures .1 .1, c .on-variable .ensures .1 .2)
+    (variable-arm _ _ _ _ (held s) (marked s) (s .pre .0) (is-there s 1 (m .match .keys1)) (may-come s 1 (m .match .keys1)) _ refl)
 
 returns-2 : tie.Need-returns-2
+unfolding bodyLength bodyLengths
 returns-2 c =
-    let m = c .before .before .before .before .before .before .before .before .before .before .before in
+    let m = c .before .before .before .before .before .before .before .before in
     let s = m .before .before in
-    rw (c .on-action .ensures .0, c .on-action .ensures .1)
-    (action-arm _ _ _ _ (held s) (s .pre .0) (is-there s 2 (m .match .keys2)) (may-come s 2 (m .match .keys2)) _ _ _ refl refl refl _ refl)
+    rw (c .on-action .ensures .0, c .on-action .ensures .1 .0, c .on-action .ensures .1 .1)
+    (action-arm _ _ _ _ (held s) (marked s) (s .pre .0) (is-there s 2 (m .match .keys2)) (may-come s 2 (m .match .keys2)) _ _ _ refl refl refl _ refl)
 
 returns-3 : tie.Need-returns-3
+unfolding bodyLength bodyLengths
 returns-3 c =
     let m = c .before .before .before .before .before in
     let s = m .before .before in
-    rw (c .on-condition .ensures .0, c .on-condition .ensures .1)
-    (condition-arm _ _ _ _ (held s) (s .pre .0) (is-there s 3 (m .match .keys3)) (may-come s 3 (m .match .keys3)) _ _ refl refl _ refl)
+    rw (c .on-condition .ensures .0, c .on-condition .ensures .1 (now (s .args .setters)))
+    (condition-arm _ _ _ _ (held s) (marked s) (s .pre .0) (is-there s 3 (m .match .keys3)) (may-come s 3 (m .match .keys3)) _ _ refl refl _ refl)
 
 returns-4 : tie.Need-returns-4
+unfolding bodyLength bodyLengths
 returns-4 c =
-    let m = c .before .before .before .before .before .before .before in
+    let m = c .before .before .before .before .before in
     let s = m .before .before in
-    rw (c .on-task .ensures .0, c .on-task .ensures .1 .0, c .on-task .ensures .1 .1)
-    (task-arm _ _ _ _ (held s) (s .pre .0) (is-there s 4 (m .match .keys4)) (may-come s 4 (m .match .keys4)) _ _ _ refl refl refl _ refl)
+    rw (c .on-task .ensures .0, c .on-task .ensures .1 .0, c .on-task .ensures .1 .1, c .on-task .ensures .1 .2)
+    (task-arm _ _ _ _ (held s) (marked s) (s .pre .0) (is-there s 4 (m .match .keys4)) (may-come s 4 (m .match .keys4)) _ _ _ refl refl refl _ refl)
 
 returns-5 : tie.Need-returns-5
+unfolding bodyLength bodyLengths
 returns-5 c =
     let m = c .before .before .before .before .before .before in
     let s = m .before .before in
     rw (c .on-seed .ensures)
-    (seed-arm _ _ _ _ (held s) (s .pre .0) (is-there s 5 (m .match .keys5)) (may-come s 5 (m .match .keys5)) _ (c .before .seed-of .ensures))
+    (seed-arm _ _ _ _ (held s) (marked s) (s .pre .0) (is-there s 5 (m .match .keys5)) (may-come s 5 (m .match .keys5)) _ (c .before .seed-of .ensures))
 
 returns-6 : tie.Need-returns-6
+unfolding bodyLength bodyLengths
 returns-6 c =
     let m = c .before in
     let s = m .before .before in
     let r = m .match .rest in
     let e : s .args .kind ≡ 6 =
-    let l = there-lies _ _ (s .pre .1 .0) in
+    let l = there-lies _ _ (s .pre .1 .1) in
     omega (arith, l .low, l .high, r .1, r .0 .1, r .0 .0 .1, r .0 .0 .0 .1, r .0 .0 .0 .0 .1) in
-    rw (c .on-end .ensures) (end-arm _ _ _ _ (held s) (s .pre .0) (is-there s 6 e) (may-come s 6 e))
+    let n : s .args .start + 0 ≡ s .args .start = omega arith in
+    rw (c .on-end .ensures) (end-arm _ _ _ _ (held s) (marked s) (s .pre .0) (rw n at (is-there s 6 e)) (may-come s 6 e))
 
 pub take-spec : {M : Type 1} → statement M
 take-spec =
     tie.close
     (tie.spec
     shared-slice-read-on-variable
+    add-on-variable
     on-variable-requires
     shared-slice-read-on-action
     add-on-action
     shared-slice-read-on-action-2
     add-on-action-2
     shared-slice-read-on-action-3
+    add-on-action-3
     on-action-requires
     shared-slice-read-on-condition
     add-on-condition
     shared-slice-read-on-condition-2
+    add-on-condition-2
     on-condition-requires
     shared-slice-read-on-task
     add-on-task
     shared-slice-read-on-task-2
     add-on-task-2
     shared-slice-read-on-task-3
+    add-on-task-3
     on-task-requires
     shared-slice-read-seed-of
     add-seed-of
@@ -216,6 +245,7 @@ take-spec =
     add-seed-of-3
     shared-slice-read-seed-of-4
     seed-of-requires
+    add-on-seed
     on-seed-requires
     on-end-requires
     returns

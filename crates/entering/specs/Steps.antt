@@ -1,0 +1,111 @@
+-- What one record does to the tables, and where the reading stands after it.
+-- Assumes nothing.
+use Prim.Native.Nat.{ℕ, _+_, _*_}
+use mathlib.Core.List.{List}
+use lib.Dec.{eqb}
+use lib.ListN.{set}
+use Rattle.plain.specs.Choose.{pick}
+use Rattle.tables.specs.Tables.{ActionTables, actionTables}
+use Rattle.entering.specs.declared.Progress.{Progress}
+use Rattle.entering.specs.declared.Step.{Step}
+use Rattle.entering.specs.declared.Step.the-variants.{On, Refused}
+
+-- where the reading stands after each record
+
+abbrev pub afterVariable : Progress → ℕ → Progress
+afterVariable p next =
+    record {
+      at = next;
+      vars = p .vars + 1;
+      actions = p .actions;
+      tasks = p .tasks;
+      last = 1;
+      own = p .own;
+      above = p .above;
+      many = p .many;
+      seed = p .seed;
+    }
+
+abbrev pub afterAction : Progress → ℕ → ℕ → Progress
+afterAction p v next =
+    record {
+      at = next;
+      vars = p .vars;
+      actions = p .actions + 1;
+      tasks = p .tasks;
+      last = 2;
+      own = v;
+      above = 0;
+      many = 0;
+      seed = p .seed;
+    }
+
+abbrev pub afterCondition : Progress → ℕ → ℕ → Progress
+afterCondition p v next =
+    record {
+      at = next;
+      vars = p .vars;
+      actions = p .actions;
+      tasks = p .tasks;
+      last = 3;
+      own = p .own;
+      above = v + 1;
+      many = p .many + 1;
+      seed = p .seed;
+    }
+
+abbrev pub afterTask : Progress → ℕ → Progress
+afterTask p next =
+    record {
+      at = next;
+      vars = p .vars;
+      actions = p .actions;
+      tasks = p .tasks + 1;
+      last = 4;
+      own = p .own;
+      above = p .above;
+      many = p .many;
+      seed = p .seed;
+    }
+
+abbrev pub afterSeed : Progress → ℕ → ℕ → Progress
+afterSeed p n next =
+    record {
+      at = next;
+      vars = p .vars;
+      actions = p .actions;
+      tasks = p .tasks;
+      last = 5;
+      own = p .own;
+      above = p .above;
+      many = p .many;
+      seed = n;
+    }
+
+-- on, unless there is a fault
+abbrev pub unlessFault : ℕ → Progress → Progress → Step
+unlessFault f p after = pick (eqb f 0) (On after) (Refused f (p .at))
+
+-- a table with one entry more, unless there is a fault
+abbrev pub stored : ℕ → List ℕ → ℕ → ℕ → List ℕ
+stored f table i x = pick (eqb f 0) (set table i x) table
+
+-- the tables of actions with one action more, unless there is a fault
+abbrev pub storedAction : ℕ → ℕ → ℕ → ℕ → ℕ → ℕ → ActionTables → ActionTables
+storedAction f i v p q next t =
+    record {
+      setters = stored f (t .setters) (16 * v + q) i;
+      vars = stored f (t .vars) i v;
+      pres = stored f (t .pres) i p;
+      posts = stored f (t .posts) i q;
+      places = stored f (t .places) i next;
+      manys = stored f (t .manys) i 0;
+    }
+
+-- the tables of actions with the number of an action's conditions entered
+abbrev pub withMany : ActionTables → ℕ → ℕ → ActionTables
+withMany t i many = actionTables (t .setters) (t .vars) (t .pres) (t .posts) (t .places) (set (t .manys) i many)
+
+-- .. unless there is a fault
+abbrev pub storedMany : ℕ → ActionTables → ℕ → ℕ → ActionTables
+storedMany f t i many = actionTables (t .setters) (t .vars) (t .pres) (t .posts) (t .places) (stored f (t .manys) i many)

@@ -1,0 +1,214 @@
+// One record taken: its fault, or its entry in the tables.
+ghost use mathlib.Core.Path.{_≡_};
+ghost use mathlib.Core.List.{List};
+ghost use Prim.Native.Nat.{ℕ, _≤_, _<_, _+_, _*_, _-_};
+ghost use lib.ListN.{getD};
+ghost use Rattle.tables.specs.Rows.{countColumn, startColumn, goalColumn, seen};
+ghost use Rattle.judging.specs.Faults.{variableFault, actionFault, conditionFault, taskFault, seedFault};
+ghost use Rattle.entering.specs.Steps.{afterVariable, afterAction, afterCondition, afterTask, afterSeed, unlessFault, stored, storedAction, storedMany, withMany};
+use judging::faults;
+
+// Where the reading stands: the place to read on from, how many variables, actions and tasks were read, the kind of the
+// last record, the variable of the last action, the least variable that its next condition may name, how many
+// conditions it has, and the seed.
+pub struct Progress {
+    pub at: usize,
+    pub vars: usize,
+    pub actions: usize,
+    pub tasks: usize,
+    pub last: u8,
+    pub own: u8,
+    pub above: u8,
+    pub many: u8,
+    pub seed: u64,
+}
+
+// What one record leads to.
+pub enum Step {
+    On(Progress),
+    Refused { number: u8, place: usize },
+    Done(Progress),
+}
+
+pub fn on_variable(p: Progress, n: u8, next: usize, rows: &mut [[u8; 3]; 32]) -> Step
+    ensures { λ r. ⌜ r ≡ unlessFault (variableFault (p .vars) n) p (afterVariable p next) ⌝ }
+    ensures { λ r. ⌜ (countColumn (now (rows .exit)) ≡ stored (variableFault (p .vars) n) (countColumn (now (rows .entry))) (p .vars) n)
+        × (startColumn (now (rows .exit)) ≡ startColumn (now (rows .entry)))
+        × (goalColumn (now (rows .exit)) ≡ goalColumn (now (rows .entry))) ⌝ }
+{
+    let vars = p.vars;
+    let fault = faults::variable_fault(vars, n);
+    if fault != 0 {
+        return Step::Refused {
+            number: fault,
+            place: p.at,
+        };
+    }
+    let row = rows[vars];
+    rows[vars] = [n, row[1], row[2]];
+    Step::On(Progress {
+        at: next,
+        vars: vars + 1,
+        actions: p.actions,
+        tasks: p.tasks,
+        last: 1,
+        own: p.own,
+        above: p.above,
+        many: p.many,
+        seed: p.seed,
+    })
+}
+
+pub fn on_seed(p: Progress, n: u64, next: usize) -> Step
+    ensures { λ r. ⌜ r ≡ unlessFault (seedFault n) p (afterSeed p n next) ⌝ }
+{
+    let fault = faults::seed_fault(n);
+    if fault != 0 {
+        return Step::Refused {
+            number: fault,
+            place: p.at,
+        };
+    }
+    Step::On(Progress {
+        at: next,
+        vars: p.vars,
+        actions: p.actions,
+        tasks: p.tasks,
+        last: 5,
+        own: p.own,
+        above: p.above,
+        many: p.many,
+        seed: n,
+    })
+}
+
+pub fn on_task(
+    p: Progress,
+    v: u8,
+    start: u8,
+    goal: u8,
+    next: usize,
+    rows: &mut [[u8; 3]; 32],
+) -> Step
+    requires { ⌜ p .vars ≤ 32 ⌝ }
+    ensures { λ r. ⌜ r ≡ unlessFault (taskFault (countColumn (now (rows .entry))) (p .vars) (p .tasks) v start goal) p (afterTask p next) ⌝ }
+    ensures { λ r. ⌜ (countColumn (now (rows .exit)) ≡ countColumn (now (rows .entry)))
+        × (startColumn (now (rows .exit)) ≡ stored (taskFault (countColumn (now (rows .entry))) (p .vars) (p .tasks) v start goal) (startColumn (now (rows .entry))) v start)
+        × (goalColumn (now (rows .exit)) ≡ stored (taskFault (countColumn (now (rows .entry))) (p .vars) (p .tasks) v start goal) (goalColumn (now (rows .entry))) v goal) ⌝ }
+{
+    let fault = faults::task_fault(rows, p.vars, p.tasks, v, start, goal);
+    if fault != 0 {
+        return Step::Refused {
+            number: fault,
+            place: p.at,
+        };
+    }
+    let i = v as usize;
+    let row = rows[i];
+    rows[i] = [row[0], start, goal];
+    Step::On(Progress {
+        at: next,
+        vars: p.vars,
+        actions: p.actions,
+        tasks: p.tasks + 1,
+        last: 4,
+        own: p.own,
+        above: p.above,
+        many: p.many,
+        seed: p.seed,
+    })
+}
+
+// Enters how many conditions an action has.
+pub fn enter_many(i: usize, many: u8, acts: &mut [[u8; 6]; 256])
+    requires { ⌜ i < 256 ⌝ }
+    ensures { λ _. ⌜ ((setters : List ℕ) → seen setters (now (acts .exit)) ≡ withMany (seen setters (now (acts .entry))) i many) ⌝ }
+{
+    let row = acts[i];
+    acts[i] = [row[0], row[1], row[2], many, row[4], row[5]];
+}
+
+pub fn on_condition(
+    p: Progress,
+    v: u8,
+    q: u8,
+    next: usize,
+    rows: &[[u8; 3]; 32],
+    acts: &mut [[u8; 6]; 256],
+) -> Step
+    requires { ⌜ (p .vars ≤ 32) × (p .many ≤ 32) × (1 ≤ p .actions) × (p .actions ≤ 256) ⌝ }
+    ensures { λ r. ⌜ r ≡ unlessFault (conditionFault (countColumn (now (rows .entry))) (p .vars) (p .own) (p .above) v q) p (afterCondition p v next) ⌝ }
+    ensures { λ r. ⌜ ((setters : List ℕ) → seen setters (now (acts .exit))
+        ≡ storedMany (conditionFault (countColumn (now (rows .entry))) (p .vars) (p .own) (p .above) v q) (seen setters (now (acts .entry))) (p .actions - 1) (p .many + 1)) ⌝ }
+{
+    let fault = faults::condition_fault(rows, p.vars, p.own, p.above, v, q);
+    if fault != 0 {
+        return Step::Refused {
+            number: fault,
+            place: p.at,
+        };
+    }
+    let many = p.many + 1;
+    enter_many(p.actions - 1, many, acts);
+    Step::On(Progress {
+        at: next,
+        vars: p.vars,
+        actions: p.actions,
+        tasks: p.tasks,
+        last: 3,
+        own: p.own,
+        above: v + 1,
+        many: many,
+        seed: p.seed,
+    })
+}
+
+pub fn on_action(
+    p: Progress,
+    v: u8,
+    pre: u8,
+    post: u8,
+    next: usize,
+    rows: &[[u8; 3]; 32],
+    setters: &mut [u8; 512],
+    acts: &mut [[u8; 6]; 256],
+    marks: &mut [u8; 512],
+) -> Step
+    requires { ⌜ (p .vars ≤ 32) × ((k : ℕ) → k < p .vars → getD (countColumn (now rows)) k 0 ≤ 16) × (next < 65536) ⌝ }
+    ensures { λ r. ⌜ r ≡ unlessFault (actionFault (countColumn (now (rows .entry))) (now (marks .entry)) (p .vars) (p .actions) v pre post) p (afterAction p v next) ⌝ }
+    ensures { λ r. ⌜ (seen (now (setters .exit)) (now (acts .exit))
+        ≡ storedAction (actionFault (countColumn (now (rows .entry))) (now (marks .entry)) (p .vars) (p .actions) v pre post) (p .actions) v pre post next
+        (seen (now (setters .entry)) (now (acts .entry))))
+        × (now (marks .exit) ≡ stored (actionFault (countColumn (now (rows .entry))) (now (marks .entry)) (p .vars) (p .actions) v pre post) (now (marks .entry)) (16 * v + post) 1) ⌝ }
+{
+    let i = p.actions;
+    let fault = faults::action_fault(rows, marks, p.vars, i, v, pre, post);
+    if fault != 0 {
+        return Step::Refused {
+            number: fault,
+            place: p.at,
+        };
+    }
+    let k = 16 * (v as usize) + (post as usize);
+    marks[k] = 1;
+    setters[k] = i as u8;
+    acts[i] = [
+        v,
+        pre,
+        post,
+        0,
+        (next % 256) as u8,
+        (next / 256 % 256) as u8,
+    ];
+    Step::On(Progress {
+        at: next,
+        vars: p.vars,
+        actions: i + 1,
+        tasks: p.tasks,
+        last: 2,
+        own: v,
+        above: 0,
+        many: 0,
+        seed: p.seed,
+    })
+}

@@ -1,0 +1,74 @@
+-- `judging::order::may_follow` meets its contract: the arm of each kind tests what `mayFollow` does.
+-- Assumes nothing.
+use borrow.Author.Tests.{le-leb, lt-leb, eq-eqb, ne-eqb}
+use Rattle.study.specs.Reading.{mayFollow}
+use Rattle.judging.proofs.order.may_follow.Statement.{statement}
+use Rattle.judging.proofs.order.may_follow.Tie as tie
+
+returns : tie.Need-returns
+unfolding mayFollow
+returns c = simp (c .match .keys1)
+
+returns-2 : tie.Need-returns-2
+unfolding mayFollow
+returns-2 c = simp (c .before .match .keys2, le-leb _ _ (c .if1 .taken))
+
+returns-3 : tie.Need-returns-3
+unfolding mayFollow
+returns-3 c = simp (c .before .match .keys2, lt-leb _ _ (c .if1 .left))
+
+returns-4 : tie.Need-returns-4
+unfolding mayFollow
+returns-4 c = simp (c .before .match .keys3, le-leb _ _ (c .if2 .taken))
+
+returns-5 : tie.Need-returns-5
+unfolding mayFollow
+returns-5 c = simp (c .before .match .keys3, lt-leb _ _ (c .if2 .left))
+
+returns-6 : tie.Need-returns-6
+unfolding mayFollow
+returns-6 c = simp (c .before .before .match .keys4, le-leb _ _ (c .before .if3 .taken), le-leb _ _ (c .if4 .taken))
+
+returns-7 : tie.Need-returns-7
+unfolding mayFollow
+returns-7 c = simp (c .before .before .match .keys4, le-leb _ _ (c .before .if3 .taken), lt-leb _ _ (c .if4 .left))
+
+returns-8 : tie.Need-returns-8
+unfolding mayFollow
+returns-8 c = simp (c .before .match .keys4, lt-leb _ _ (c .if3 .left))
+
+returns-9 : tie.Need-returns-9
+unfolding mayFollow
+returns-9 c = simp (c .before .match .keys5, eq-eqb _ _ (c .if5 .taken))
+
+returns-10 : tie.Need-returns-10
+unfolding mayFollow
+returns-10 c = simp (c .before .match .keys5, ne-eqb _ _ (c .if5 .left))
+
+returns-11 : tie.Need-returns-11
+unfolding mayFollow
+returns-11 c =
+    let r = c .match .rest in
+    simp (
+      ne-eqb _ _ (r .0 .0 .0 .0 .1),
+      ne-eqb _ _ (r .0 .0 .0 .1),
+      ne-eqb _ _ (r .0 .0 .1),
+      ne-eqb _ _ (r .0 .1),
+      ne-eqb _ _ (r .1),
+    )
+
+pub may-follow-spec : {M : Type 1} → statement M
+may-follow-spec =
+    tie.close
+    (tie.spec
+    returns
+    returns-2
+    returns-3
+    returns-4
+    returns-5
+    returns-6
+    returns-7
+    returns-8
+    returns-9
+    returns-10
+    returns-11)

@@ -1,0 +1,116 @@
+// The faults 4 to 7 of a record that is allowed and whole; 0 where it has none.
+ghost use mathlib.Core.Path.{_≡_};
+ghost use Prim.Native.Nat.{ℕ, _≤_, _<_, _+_, _*_};
+ghost use lib.ListN.{getD};
+ghost use Rattle.tables.specs.Rows.{countColumn};
+ghost use Rattle.judging.specs.Faults.{inTable, setInTable, variableFault, actionFault, conditionFault, taskFault, seedFault};
+
+// There is such a variable, and the value is one of its values.
+fn in_range(rows: &[[u8; 3]; 32], vars: usize, v: u8, q: u8) -> bool
+    requires { ⌜ vars ≤ 32 ⌝ }
+    ensures { λ r. ⌜ r ≡ inTable (countColumn (now (rows .entry))) vars v q ⌝ }
+{
+    let i = v as usize;
+    if vars <= i {
+        return false;
+    }
+    q < rows[i][0]
+}
+
+// An action read before sets the variable to the value.
+fn is_set(marks: &[u8; 512], v: u8, q: u8) -> bool
+    requires { ⌜ (v < 32) × (q < 16) ⌝ }
+    ensures { λ r. ⌜ r ≡ setInTable (now (marks .entry)) v q ⌝ }
+{
+    marks[16 * (v as usize) + (q as usize)] != 0
+}
+
+pub fn variable_fault(vars: usize, n: u8) -> u8
+    ensures { λ r. ⌜ r ≡ variableFault vars n ⌝ }
+{
+    if 32 <= vars {
+        return 4;
+    }
+    if n < 2 {
+        return 5;
+    }
+    if 16 < n {
+        return 5;
+    }
+    0
+}
+
+pub fn action_fault(
+    rows: &[[u8; 3]; 32],
+    marks: &[u8; 512],
+    vars: usize,
+    actions: usize,
+    v: u8,
+    p: u8,
+    q: u8,
+) -> u8
+    requires { ⌜ (vars ≤ 32) × ((k : ℕ) → k < vars → getD (countColumn (now rows)) k 0 ≤ 16) ⌝ }
+    ensures { λ r. ⌜ r ≡ actionFault (countColumn (now (rows .entry))) (now (marks .entry)) vars actions v p q ⌝ }
+{
+    if 256 <= actions {
+        return 4;
+    }
+    if !in_range(rows, vars, v, p) {
+        return 5;
+    }
+    if !in_range(rows, vars, v, q) {
+        return 5;
+    }
+    if p == q {
+        return 6;
+    }
+    if is_set(marks, v, q) {
+        return 7;
+    }
+    0
+}
+
+pub fn condition_fault(rows: &[[u8; 3]; 32], vars: usize, own: u8, above: u8, v: u8, q: u8) -> u8
+    requires { ⌜ vars ≤ 32 ⌝ }
+    ensures { λ r. ⌜ r ≡ conditionFault (countColumn (now (rows .entry))) vars own above v q ⌝ }
+{
+    if !in_range(rows, vars, v, q) {
+        return 5;
+    }
+    if v == own {
+        return 6;
+    }
+    if v < above {
+        return 6;
+    }
+    0
+}
+
+pub fn task_fault(rows: &[[u8; 3]; 32], vars: usize, tasks: usize, v: u8, p: u8, q: u8) -> u8
+    requires { ⌜ vars ≤ 32 ⌝ }
+    ensures { λ r. ⌜ r ≡ taskFault (countColumn (now (rows .entry))) vars tasks v p q ⌝ }
+{
+    let i = v as usize;
+    if i == tasks {
+        if !in_range(rows, vars, v, p) {
+            return 5;
+        }
+        if !in_range(rows, vars, v, q) {
+            return 5;
+        }
+        return 0;
+    }
+    5
+}
+
+pub fn seed_fault(n: u64) -> u8
+    ensures { λ r. ⌜ r ≡ seedFault n ⌝ }
+{
+    if n < 1 {
+        return 5;
+    }
+    if 2147483646 < n {
+        return 5;
+    }
+    0
+}

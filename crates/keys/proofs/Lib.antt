@@ -1,0 +1,4 @@
+pub mod Freed
+pub mod KeyTables
+pub mod Keys
+pub mod Lowering

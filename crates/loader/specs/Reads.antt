@@ -1,0 +1,85 @@
+-- Where the reading stands: the tables and the place answer to the definition of what a file says.
+-- Assumes nothing.
+use Prim.Native.Nat.{ℕ, _+_, _-_, _*_, _≤_, _<_}
+use mathlib.Core.Path.{_≡_}
+use mathlib.Core.Bool.{Bool}
+use mathlib.Core.List.{List}
+use lib.Dec.{leb, ltb}
+use lib.ListN.{length, getD}
+use Rattle.plain.specs.Choose.{pick}
+use Rattle.study.specs.Study.{Action, Study}
+use Rattle.study.specs.Reading.{says, refused, Draft, Verdict, settled, onward, lastAction, above, mayFollow, sets, readOn, reading}
+use Rattle.records.specs.declared.Found.{Found}
+use Rattle.records.specs.declared.Found.the-variants.{There, Unknown, Cut, Ended}
+use Rattle.tables.specs.Tables.{Tables, Sized, HoldsCounts, HoldsActions, HoldsTasks, Holds}
+use Rattle.judging.specs.Faults.{setInTable}
+use Rattle.entering.specs.declared.Progress.{Progress}
+use Rattle.entering.specs.declared.Step.{Step}
+use Rattle.entering.specs.declared.Step.the-variants.{On, Refused, Done}
+
+-- where no whole record of a known kind stands
+abbrev pub notThere : Bool → ℕ → Found → Step
+notThere left last (There kind start next) = Refused 0 start
+notThere left last (Unknown place) = Refused 2 place
+notThere left last (Cut kind place) = Refused (pick (mayFollow left last kind) 1 3) place
+notThere left last (Ended place) = Refused 1 place
+
+-- after the end record nothing may follow
+abbrev pub afterEnd : Progress → ℕ → ℕ → Step
+afterEnd p len next = pick (ltb next len) (Refused 8 next) (Done p)
+
+-- four bytes, most significant first
+abbrev pub seedOf : ℕ → ℕ → ℕ → ℕ → ℕ
+seedOf a b c d = ((a * 256 + b) * 256 + c) * 256 + d
+
+-- what keeps every index and every sum in range
+pub record Safe (file : List ℕ) (p : Progress) (counts : List ℕ) : Type 0 where
+  pub inside : p .at ≤ length file
+  pub few-vars : p .vars ≤ 32
+  pub few-actions : p .actions ≤ 256
+  pub small : (v : ℕ) → v < p .vars → getD counts v 0 ≤ 16
+  pub low : p .above ≤ 32
+  pub fewer : p .many ≤ p .above
+  pub short : p .last ≤ 3 → p .at ≤ 2 * p .vars + (100 * p .actions + 3 * p .above)
+  pub some-action : 2 ≤ p .last → p .last ≤ 3 → 1 ≤ p .actions
+
+-- each value that some action sets is marked, and no other
+pub record HoldsMarks (marks : List ℕ) (actions : List Action) : Type 0 where
+  pub long : length marks ≡ 512
+  pub tells : (v q : ℕ) → v < 32 → q < 16 → setInTable marks v q ≡ sets actions v q
+
+-- the tables, the marks and the place answer to what has been read
+pub record Stands (file : List ℕ) (p : Progress) (t : Tables) (m : List ℕ) (d : Draft) : Type 0 where
+  pub sized : Sized t
+  pub counts : HoldsCounts (p .vars) (t .counts) (d .study .counts)
+  pub actions : HoldsActions file (p .actions) (t .acts) (d .study .actions)
+  pub marks : HoldsMarks m (d .study .actions)
+  pub tasks : HoldsTasks (p .tasks) (t .starts) (t .goals) (d .study .tasks)
+  pub few-tasks : p .tasks ≤ p .vars
+  pub all-tasks : 5 ≤ p .last → p .vars ≤ p .tasks
+  pub last : p .last ≡ d .last
+  pub own : p .own ≡ lastAction (d .study) .var
+  pub above : (v : ℕ) → leb (p .above) v ≡ above (lastAction (d .study) .conditions) v
+  pub seed : p .seed ≡ d .study .seed
+  pub next-condition : 2 ≤ p .last → p .last ≤ 3 → getD (t .acts .places) (p .actions - 1) 0 + 3 * p .many ≡ p .at
+  pub counted : 2 ≤ p .last → p .last ≤ 3 → getD (t .acts .manys) (p .actions - 1) 0 ≡ p .many
+
+-- the draft that the tables hold at a place, and how many looks are left from there
+pub record Halfway (file : List ℕ) (t : Tables) (m : List ℕ) (p : Progress) : Type 0 where
+  pub draft : Draft
+  pub looks : ℕ
+  pub enough : length file < looks + p .at
+  pub reads : reading file ≡ readOn looks file (p .at) draft
+  pub stands : Stands file p t m draft
+
+-- a step goes on further down the file, and stays safe
+abbrev pub Further : List ℕ → ℕ → List ℕ → Step → Type 0
+Further file at counts (On p) = (at < p .at) × Safe file p counts
+Further file at counts (Refused n place) = Unit {0}
+Further file at counts (Done p) = Unit {0}
+
+-- a step answers to the verdict on the record
+abbrev pub Meets : List ℕ → Verdict → Tables → List ℕ → Step → Type 0
+Meets file v t m (On p) = (d : Draft) × (v ≡ onward (p .at) d) × Stands file p t m d
+Meets file v t m (Refused n place) = v ≡ settled (refused n place)
+Meets file v t m (Done p) = (s : Study) × (v ≡ settled (says s)) × Holds file (p .vars) (p .actions) (p .seed) t s

@@ -1,6 +1,0 @@
-pub mod Facts
-pub mod Rows
-pub mod Wanting
-pub mod Taking
-pub mod Keys
-pub mod Whole

@@ -1,0 +1,38 @@
+-- The list that a known study's seed draws: it stands in the front of the lent ranks, and is a rank list.
+-- Assumes nothing.
+use mathlib.Core.Path.{_≡_, _∙_}
+use mathlib.Core.List.{List, _++_}
+use Prim.Native.Nat.{ℕ, _≤_}
+use native.Mathlib.Omega.{arith}
+use lib.ListN.{take, drop, replicate}
+use lib.Seq.{take-at}
+use Rattle.ranking.specs.Ranking.{tested}
+use Rattle.ranking.specs.declared.Tested.the-variants.{Fine}
+use Rattle.ranking.proofs.Fine.{rank-list-is-fine}
+use Rattle.study.specs.Study.{Study}
+use Rattle.tables.specs.Tables.{ActionTables}
+use Rattle.draw.specs.Draw.{drawn, drawLeaves}
+use Rattle.draw.proofs.Drawn.{drawn-is-rank-list, not-refused}
+use Rattle.stages.specs.Whole.{Known}
+
+pub drawn-fine : (seed a : ℕ) → tested (drawn seed a) a ≡ Fine
+drawn-fine seed a = rank-list-is-fine (drawn-is-rank-list seed a)
+
+module _
+    {file : List ℕ} {n a x : ℕ} {acts : ActionTables} {starts goals : List ℕ} {t : Study}
+    (known : Known file n a x acts starts goals t)
+  where
+    pub drawn-in-front : (ranks : List ℕ) → ranks ≡ drawLeaves x a (replicate 256 0) → take a ranks ≡ drawn x a
+    drawn-in-front ranks e =
+        e-front ∙ take-at (drawn x a) (drop a (replicate 256 0)) a (drawn-is-rank-list x a .an-entry-for-each)
+      where
+        few : a ≤ 256
+        few = known .actions .few
+
+        e-front : take a ranks ≡ take a (drawn x a ++ drop a (replicate 256 0))
+        e-front =
+            rw (
+              e,
+              not-refused x a 256
+                  (omega (arith, known .seed, known .lawful .seed-low)) (omega (arith, known .seed, known .lawful .seed-high)) few few,
+            )

@@ -1,0 +1,150 @@
+-- From one stage to the next: what is known of the study in the tables that each function is lent.
+-- Assumes nothing.
+use mathlib.Core.Path.{_≡_, refl, _∙_}
+use mathlib.Core.Logic.{inl, inr}
+use mathlib.Core.List.{List, [], _∷_}
+use Prim.Native.Nat.{ℕ, zero, suc, _+_, _*_, _≤_, _<_}
+use native.Mathlib.Omega.{arith}
+use lib.ListN.{length, getD, set, replicate}
+use lib.Seq.{getD-set-same, getD-set-other}
+use borrow.Author.Count.{below-more}
+use Rattle.ranking.specs.Ranking.{tested}
+use Rattle.ranking.specs.declared.Tested.{Tested}
+use Rattle.ranking.specs.declared.Tested.the-variants.{Fine, Length, Entry}
+use Rattle.ranking.proofs.Tested.{the-type}
+use types.Run.{OneOf}
+use denote.Enum.Declared.{tagOf}
+use Rattle.ranking.proofs.Fine.{fine-is-rank-list}
+use Rattle.study.specs.Study.{Study}
+use Rattle.tables.specs.Rows.{Begins}
+use Rattle.tables.specs.Tables.{ActionTables}
+use Rattle.planning.specs.Refusals.{notRanked}
+use Rattle.planning.specs.Planning.{Plans, wrong-length, wrong-entry}
+use Rattle.walks.specs.Walks.{Met, startOf, goalOf}
+use Rattle.tracing.specs.Facts.{Tells, Moves}
+use Rattle.tracing.specs.Steps.{EmptyRow, Rowed, Members}
+use Rattle.tracing.proofs.Ranges.{few-tasks}
+use Rattle.wanting.specs.Wanting.{Counts}
+use Rattle.taking.specs.Taking.{Prepared}
+use Rattle.stages.specs.Whole.{Known, Given, Walking}
+
+-- a table of zeros holds 0 wherever one looks
+pub all-zeros : (n j : ℕ) → _≡_ {A = ℕ} (getD (replicate n 0) j 0) 0
+all-zeros zero j = refl
+all-zeros (suc n) zero = refl
+all-zeros (suc n) (suc j) = all-zeros n j
+
+-- with a rank list, what is known is given
+pub known-given :
+    {file : List ℕ} (ranks : List ℕ) {n a x : ℕ} {acts : ActionTables} {starts goals : List ℕ} {t : Study}
+    → Known file n a x acts starts goals t → tested ranks a ≡ Fine → Given file ranks n a acts starts goals t
+known-given ranks known ranked =
+    record { lawful = known .lawful; variables = known .variables; actions = known .actions; tasks = known .tasks; ranked = ranked }
+
+-- a list that is no rank list is refused by 9
+pub not-ranked :
+    {t : Study} {ranks before : List ℕ} (r : Tested) → tested ranks (length (t .actions)) ≡ r → OneOf (1 ∷ 2 ∷ []) (tagOf the-type r)
+    → Plans t ranks before (notRanked (length ranks) r) before
+not-ranked Fine e h = absurd (neither h)
+  where
+    neither : OneOf (1 ∷ 2 ∷ []) 0 → ⊥
+    neither (inl x) = omega arith
+    neither (inr x) = omega arith
+not-ranked Length e h = wrong-length e
+not-ranked (Entry k) e h = wrong-entry e
+
+module _
+    {file ranks : List ℕ} {n a : ℕ} {acts : ActionTables} {starts goals : List ℕ} {t : Study}
+    (given : Given file ranks n a acts starts goals t)
+  where
+    pub given-moves : Moves a (acts .setters) (acts .vars) (acts .pres) (acts .posts) t
+    given-moves =
+        record {
+          lawful = given .lawful;
+          actions = given .actions .count;
+          tells-var = λ i h. given .actions .action i h .var;
+          tells-pre = λ i h. given .actions .action i h .pre;
+          tells-post = λ i h. given .actions .action i h .post;
+          names = λ i h. given .actions .action i h .found;
+        }
+
+    pub given-ranked : tested ranks (length (t .actions)) ≡ Fine
+    given-ranked = rw (← given .actions .count) (given .ranked)
+
+    pub given-starts : Tells startOf n starts t
+    given-starts = given .tasks .start
+
+    pub given-goals : Tells goalOf n goals t
+    given-goals = given .tasks .goal
+
+    -- what tracing into an empty table ensures
+    pub given-traced :
+        {Ensured : Type 0}
+        → (Moves a (acts .setters) (acts .vars) (acts .pres) (acts .posts) t → n ≡ length (t .tasks)
+        → Tells startOf n starts t → Tells goalOf n goals t → ((v : ℕ) → v < 32 → EmptyRow v (replicate 512 0)) → Ensured)
+        → Ensured
+    given-traced ensures = ensures given-moves (given .variables) given-starts given-goals (λ v h x k. all-zeros 512 (16 * v + x))
+
+    pub few-variables : n ≤ 32
+    few-variables = omega (arith, given .variables, few-tasks (given .lawful))
+
+    pub given-walking :
+        (total : ℕ) (steps state : List ℕ) → Rowed t n steps → (list : List ℕ) → Members t list → length list ≡ total
+        → Begins n starts state
+        → Walking file ranks n a total (acts .vars) (acts .pres) (acts .posts) (acts .places) (acts .manys) steps state t
+    given-walking total steps state rowed list members counted begins =
+        record {
+          wishes =
+              record {
+                lawful = given .lawful;
+                actions = given .actions .count;
+                tells-var = λ i h. given .actions .action i h .var;
+                tells-pre = λ i h. given .actions .action i h .pre;
+                tells-conditions = λ i h. given .actions .action i h .conditions;
+              };
+          deeds =
+              record {
+                lawful = given .lawful;
+                actions = given .actions .count;
+                tells-var = λ i h. given .actions .action i h .var;
+                tells-post = λ i h. given .actions .action i h .post;
+                tells-conditions = λ i h. given .actions .action i h .conditions;
+              };
+          variables = given .variables;
+          ranked = given .ranked;
+          rowed = rowed;
+          list = list;
+          members = members;
+          counted = counted;
+          at-start = λ v h. begins .start v h ∙ given .tasks .start v h;
+        }
+
+module _
+    {file ranks : List ℕ} {n a total : ℕ} {vars pres posts places manys steps state : List ℕ} {t : Study}
+    (walking : Walking file ranks n a total vars pres posts places manys steps state t)
+  where
+    -- there is a rank for each action
+    pub as-many-ranks : length ranks ≡ a
+    as-many-ranks = fine-is-rank-list (walking .ranked) .an-entry-for-each
+
+    pub walking-ranked : tested ranks (length (t .actions)) ≡ Fine
+    walking-ranked = rw (← walking .wishes .actions) (walking .ranked)
+
+    pub walking-rowed : Rowed t (length (t .tasks)) steps
+    walking-rowed = rw (← walking .variables) (walking .rowed)
+
+    pub walking-prepared :
+        (wants : List ℕ) → Met t → ((list : List ℕ) → Members t list → Counts t list wants)
+        → Prepared file n (length ranks) total vars posts places manys steps wants state t
+    walking-prepared wants met counts =
+        record {
+          deeds = rw as-many-ranks (walking .deeds);
+          variables = walking .variables;
+          rowed = walking .rowed;
+          met = met;
+          list = walking .list;
+          members = walking .members;
+          counted = walking .counted;
+          wanted = counts (walking .list) (walking .members);
+          at-start = walking .at-start;
+        }

@@ -1,0 +1,66 @@
+-- `stages::plan_loaded` meets its contract: a variable with no walk is refusal 10, else planning goes on from the start.
+-- Assumes nothing.
+use mathlib.Core.Path.{refl, ap, _∙_}
+use borrow.Author.Needs.{needs}
+use Rattle.planning.specs.Planning.{no-walk}
+use Rattle.stages.specs.Answers.{notWalked}
+use Rattle.stages.proofs.Stages.{given-moves, given-starts, given-goals, given-ranked, given-traced, given-walking, few-variables}
+use Rattle.stages.proofs.plan_loaded.Statement.{statement}
+use Rattle.stages.proofs.plan_loaded.Tie as tie
+
+walk-all-requires : tie.Need-walk-all-requires
+walk-all-requires c κs =
+    let (t, given) = c .before .before .before .before .pre in
+    (refl, (t, given-moves given, given .variables, given-starts given, given-goals given))
+
+enum-known-walked : tie.Need-enum-known-walked
+enum-known-walked c = search needs
+
+enum-told : tie.Need-enum-told
+enum-told c = search needs
+
+unwalked-requires : tie.Need-unwalked-requires
+unwalked-requires c κs = search needs
+
+returns : tie.Need-returns
+returns c t given =
+    let e = c .before .enum-told .given .1 in
+    rw (c .unwalked .ensures ∙ ap notWalked e)
+    (no-walk (given-ranked given) (rw e at (given-traced given (c .before .before .before .walk-all .ensures .1 t))))
+
+set-out-requires : tie.Need-set-out-requires
+set-out-requires c κs = (few-variables (c .before .before .before .before .before .before .before .before .before .pre .1), refl)
+
+plan-walked-requires : tie.Need-plan-walked-requires
+plan-walked-requires c κs =
+    let o = c .before .before .before in
+    let w = o .before .before .before in
+    let a = w .before .before in
+    let (t, given) = a .before .before .before .before .before .pre in
+    let (rowed, (list, (members, counted))) = rw (w .walked .given .1) at (given-traced given (a .walk-all .ensures .1 t)) in
+    (o .set-out .ensures .long, (t, given-walking given _ _ _ rowed list members counted (o .set-out .ensures)))
+
+same-length : tie.Need-same-length
+same-length c = search needs
+
+returns-2 : tie.Need-returns-2
+returns-2 c t given =
+    let p = c .before .before in
+    let o = p .before .before .before .before in
+    let w = o .before .before .before in
+    let (rowed, (list, (members, counted))) = rw (w .walked .given .1) at (given-traced given (w .before .before .walk-all .ensures .1 t)) in
+    p .plan-walked .ensures t (given-walking given _ _ _ rowed list members counted (o .set-out .ensures))
+
+pub plan-loaded-spec : {M : Type 1} → statement M
+plan-loaded-spec =
+    tie.close
+    (tie.spec
+    walk-all-requires
+    enum-known-walked
+    enum-told
+    unwalked-requires
+    returns
+    set-out-requires
+    plan-walked-requires
+    same-length
+    returns-2)

@@ -1,0 +1,4 @@
+pub mod Searches
+pub mod Marks
+pub mod Turns
+pub mod Halfway

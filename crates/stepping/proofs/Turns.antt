@@ -1,0 +1,141 @@
+-- One step of a run, as the tables tell it, is one step of the definition.
+-- Assumes nothing.
+use mathlib.Core.Path.{_≡_, refl, sym, _∙_}
+use mathlib.Core.Bool.{true, false, not}
+use mathlib.Core.List.{List, _∷_}
+use Prim.Native.Nat.{ℕ, _+_, _*_, _≤_, _<_}
+use native.Mathlib.Omega.{arith}
+use lib.Dec.{eqb}
+use lib.ListN.{length, getD, set, length-set}
+use lib.Seq.{take-set-lt, length-take-le}
+use borrow.Author.Tests.{le-leb, lt-leb, eq-eqb, ne-eqb, not-true, not-false}
+use Rattle.answer.specs.Answers.{three, refusal}
+use Rattle.study.specs.Study.{Action, Study, actionAt}
+use Rattle.lawful.specs.Lawful.{LawfulAction}
+use Rattle.plans.specs.Plans.{State, after}
+use Rattle.runs.specs.Run.{Failing, none, fails, stops, barred, held, runOn}
+use Rattle.tables.specs.Rows.{Row}
+use Rattle.tables.specs.declared.Act.{Act}
+use Rattle.stepping.specs.declared.Fails.the-variants.{Nowhere, At}
+use Rattle.stepping.specs.declared.Turn.the-variants.{On, Stops}
+use Rattle.stepping.specs.Stepping.{Tells, Ready, Stage, Takes, shown, failsOf}
+use Rattle.stepping.proofs.Searches.{barred-shown}
+use Rattle.stepping.proofs.Marks.{marked-more}
+
+module _ (t : Study) (past : List State) (s : State) (k i : ℕ) (rest : List ℕ) where
+  abbrev a : Action
+  a = actionAt (t .actions) i
+
+  run-too-high : length (t .actions) ≤ i → runOn t past s k (i ∷ rest) ≡ stops (refusal 14 k)
+  unfolding runOn
+  run-too-high h = rw (le-leb (length (t .actions)) i h)
+
+  run-barred : (v : ℕ) → i < length (t .actions) → barred s a ≡ fails v → runOn t past s k (i ∷ rest) ≡ stops (three 15 k v)
+  unfolding runOn
+  run-barred v h e = rw (lt-leb (length (t .actions)) i h, e)
+
+  run-held :
+      i < length (t .actions) → barred s a ≡ none → held (s ∷ past) (a .var) (a .post) ≡ true
+      → runOn t past s k (i ∷ rest) ≡ stops (three 16 k (a .var))
+  unfolding runOn
+  run-held h e b = rw (lt-leb (length (t .actions)) i h, e, b)
+
+  run-step :
+      i < length (t .actions) → barred s a ≡ none → held (s ∷ past) (a .var) (a .post) ≡ false
+      → runOn t past s k (i ∷ rest) ≡ runOn t (s ∷ past) (after s a) (k + 1) rest
+  unfolding runOn
+  run-step h e b = rw (lt-leb (length (t .actions)) i h, e, b)
+
+pub is-at : (f : Failing) (v : ℕ) → At v ≡ failsOf f → f ≡ fails v
+is-at none v e = cc
+is-at (fails w) v e = cc
+
+pub is-nowhere : (f : Failing) → Nowhere ≡ failsOf f → f ≡ none
+is-nowhere none e = refl
+is-nowhere (fails w) e = cc
+
+-- an action that is there, as its row tells it
+module _ {file : List ℕ} {actions : ℕ} {acts : List Row} {t : Study} (ready : Ready file actions acts t) (i : ℕ) (there : i < actions) where
+  lawful : LawfulAction (t .counts) (actionAt (t .actions) i)
+  lawful = ready .lawful .action i (omega (arith, ready .count))
+
+  module _ {act : Act} (tells : Tells file act (actionAt (t .actions) i)) {v p : ℕ} (var : v ≡ act .var) (post : p ≡ act .post) where
+    var-is : v ≡ actionAt (t .actions) i .var
+    var-is = var ∙ tells .var
+
+    post-is : p ≡ actionAt (t .actions) i .post
+    post-is = post ∙ tells .post
+
+    var-small : v < length (t .counts)
+    var-small = rw var-is (lawful .has-post .there)
+
+    post-small : p < 16
+    post-small = omega (arith, post-is, lawful .has-post .small, ready .lawful .few-values (actionAt (t .actions) i .var) (lawful .has-post .there))
+
+    pub mark-in-range : (v < 32) × (16 * v + p < 512)
+    mark-in-range =
+        let few = ready .lawful .few-variables in
+        (omega (arith, var-small), omega (arith, var-small, post-small))
+
+module _
+    {file : List ℕ} {actions : ℕ} {acts : List Row} {t : Study}
+    (ready : Ready file actions acts t)
+    {past : List State} {table marks : List ℕ}
+    (stage : Stage t past table marks)
+    (k i : ℕ)
+  where
+    pub takes-14 : actions ≤ i → Takes t past k i table table marks (Stops (refusal 14 k))
+    takes-14 h rest = run-too-high t past (shown t table) k i rest (omega (arith, ready .count))
+
+    module _ (there : i < actions) where
+      usable : i < length (t .actions)
+      usable = omega (arith, ready .count)
+
+      barred-is : barred (shown t table) (actionAt (t .actions) i) ≡ barred table (actionAt (t .actions) i)
+      barred-is =
+          let a = lawful ready i there in
+          barred-shown (length (t .counts)) table (actionAt (t .actions) i) (a .has-pre .there) (λ j h. a .conditions .has j h .there)
+
+      pub takes-15 :
+          {v : ℕ} → At v ≡ failsOf (barred table (actionAt (t .actions) i))
+          → Takes t past k i table table marks (Stops (three 15 k v))
+      takes-15 {v} e rest = run-barred t past (shown t table) k i rest v usable (barred-is ∙ is-at _ v e)
+
+      -- nothing bars it
+      module _
+          (free : Nowhere ≡ failsOf (barred table (actionAt (t .actions) i)))
+          {act : Act} (tells : Tells file act (actionAt (t .actions) i))
+          {v p : ℕ} (var : v ≡ act .var) (post : p ≡ act .post)
+        where
+          told : eqb (getD marks (16 * v + p) 0) 0 ≡ not (held (shown t table ∷ past) (actionAt (t .actions) i .var) (actionAt (t .actions) i .post))
+          told =
+              stage .marked .tells v p (var-small ready i there tells var post) (post-small ready i there tells var post)
+              ∙ (rw (var-is ready i there tells var post, post-is ready i there tells var post))
+
+          pub takes-16 : (getD marks (16 * v + p) 0 ≡ 0 → ⊥) → Takes t past k i table table marks (Stops (three 16 k v))
+          takes-16 o rest =
+              run-held t past (shown t table) k i rest usable (barred-is ∙ is-nowhere _ free) (not-false _ (sym told ∙ ne-eqb _ 0 o))
+              ∙ (rw (var-is ready i there tells var post))
+
+          shown-set : shown t (set table v p) ≡ set (shown t table) v p
+          shown-set = take-set-lt (length (t .counts)) table v p (var-small ready i there tells var post)
+
+          stage-more : Stage t (shown t table ∷ past) (set table v p) (set marks (16 * v + p) 1)
+          stage-more =
+              record {
+                long = length-set table v p ∙ stage .long;
+                marked =
+                    rw shown-set
+                    (marked-more (stage .marked) v p (var-small ready i there tells var post) (ready .lawful .few-variables)
+                    (omega (arith, length-take-le (length (t .counts)) table (omega (arith, stage .long, ready .lawful .few-variables))))
+                    (post-small ready i there tells var post));
+              }
+
+          pub takes-on : getD marks (16 * v + p) 0 ≡ 0 → Takes t past k i table (set table v (act .post)) (set marks (16 * v + p) 1) On
+          takes-on e =
+              rw (← post) (
+                λ rest.
+                    run-step t past (shown t table) k i rest usable (barred-is ∙ is-nowhere _ free) (not-true _ (sym told ∙ eq-eqb _ 0 e))
+                    ∙ (rw (shown-set, var-is ready i there tells var post, post-is ready i there tells var post)),
+                stage-more,
+              )

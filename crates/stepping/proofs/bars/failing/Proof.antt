@@ -1,0 +1,94 @@
+-- `stepping::bars::failing` meets its contract. The loop's invariant: the conditions before k hold.
+-- Assumes nothing.
+use mathlib.Core.Path.{_≡_, refl}
+use mathlib.Core.List.{List}
+use Prim.Native.Nat.{_+_, _*_, _-_, _≤_}
+use native.Mathlib.Omega.{arith}
+use lib.ListN.{drop}
+use borrow.Author.Needs.{needs}
+use Rattle.study.specs.Study.{Condition}
+use Rattle.tables.specs.Tables.{HoldsConditions}
+use Rattle.runs.specs.Run.{failing}
+use Rattle.stepping.proofs.Searches.{condition-fails, condition-holds, conditions-hold}
+use Rattle.stepping.proofs.bars.failing.Statement.{statement}
+use Rattle.stepping.proofs.bars.failing.Tie as tie
+
+abbrev Inv-loop : tie.InvT-loop
+Inv-loop file place many state k₀ k =
+    (k ≤ many) × ((cs : List Condition) → HoldsConditions file place many cs → failing state (drop k cs) ≡ failing state cs)
+
+abbrev μ-loop : tie.MeasureT-loop
+μ-loop file place many state k₀ k = many - k
+
+loop-holds : tie.Need-loop-holds Inv-loop μ-loop
+loop-holds c = (omega arith, λ cs h. refl)
+
+mul-at : tie.Need-mul-at Inv-loop μ-loop
+mul-at c = search needs
+
+add-at : tie.Need-add-at Inv-loop μ-loop
+add-at c = search needs
+
+add-v : tie.Need-add-v Inv-loop μ-loop
+add-v c = search needs
+
+shared-slice-read-v : tie.Need-shared-slice-read-v Inv-loop μ-loop
+shared-slice-read-v c = search needs
+
+cast-v : tie.Need-cast-v Inv-loop μ-loop
+cast-v c =
+    let l = c .before .before in
+    omega (arith, c .shared-slice-known .given (l .before .args .place + 3 * l .loop .k + 1))
+
+element-copy-out-if1 : tie.Need-element-copy-out-if1 Inv-loop μ-loop
+element-copy-out-if1 c =
+    let l = c .before .before in
+    omega (arith, l .before .pre .1 (l .loop .k) (c .before .loop-test .taken))
+
+add-if1 : tie.Need-add-if1 Inv-loop μ-loop
+add-if1 c = search needs
+
+shared-slice-read-if1 : tie.Need-shared-slice-read-if1 Inv-loop μ-loop
+shared-slice-read-if1 c = search needs
+
+returns : tie.Need-returns Inv-loop μ-loop
+returns c =
+    let l = c .before .before .before .before .before in
+    λ cs h. condition-fails h (l .before .args .state .now) (l .loop .k) (omega arith) (l .loop .inv .1 cs h) (c .if1 .taken)
+
+add-k : tie.Need-add-k Inv-loop μ-loop
+add-k c = search needs
+
+loop-less : tie.Need-loop-less Inv-loop μ-loop
+loop-less c = search needs
+
+loop-again : tie.Need-loop-again Inv-loop μ-loop
+loop-again c =
+    let l = c .before .before .before .before .before in
+    (omega arith, λ cs h. condition-holds h (l .before .args .state .now) (l .loop .k) (omega arith) (l .loop .inv .1 cs h) (c .if1 .left))
+
+returns-2 : tie.Need-returns-2 Inv-loop μ-loop
+returns-2 c =
+    let l = c .before in
+    λ cs h. conditions-hold h (l .before .args .state .now) (l .loop .k) (omega arith) (l .loop .inv .1 cs h)
+
+pub failing-spec : {M : Type 1} → statement M
+failing-spec =
+    tie.close
+    (tie.spec
+    Inv-loop
+    μ-loop
+    loop-holds
+    mul-at
+    add-at
+    add-v
+    shared-slice-read-v
+    cast-v
+    element-copy-out-if1
+    add-if1
+    shared-slice-read-if1
+    returns
+    add-k
+    loop-less
+    loop-again
+    returns-2)

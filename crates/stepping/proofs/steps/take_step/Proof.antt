@@ -1,0 +1,136 @@
+-- `stepping::steps::take_step` meets its contract: each return's tests are those of one step of the definition.
+-- Assumes nothing.
+use mathlib.Core.Path.{_≡_, sym, _∙_}
+use Prim.Native.Nat.{_+_, _*_, _<_}
+use denote.Ref.{now}
+use borrow.Author.Needs.{needs}
+use Rattle.study.specs.Study.{Study, actionAt}
+use Rattle.runs.specs.Run.{barred}
+use Rattle.stepping.specs.declared.Fails.the-variants.{Nowhere}
+use Rattle.stepping.specs.Stepping.{Ready, Tells, failsOf}
+use Rattle.stepping.proofs.Turns.{mark-in-range, takes-14, takes-15, takes-16, takes-on}
+use Rattle.stepping.proofs.steps.take_step.Statement.{statement}
+use Rattle.stepping.proofs.steps.take_step.Tie as tie
+
+-- the action is there, and its row was opened
+module _ (c : tie.After-action-at) where
+  abbrev start : tie.Start
+  start = c .before .before .before
+
+  there : start .args .entry < start .args .actions
+  there = c .before .if1 .left
+
+  told :
+      {t : Study} → Ready (now (start .args .file)) (start .args .actions) (now (start .args .acts)) t
+      → Tells (now (start .args .file)) (c .action-at .result) (actionAt (t .actions) (start .args .entry))
+  told r = r .action (start .args .entry) there (c .action-at .ensures)
+
+-- .. and nothing bars it
+module _ (c : tie.After-wide2) where
+  abbrev opened : tie.After-action-at
+  opened = c .before .before .before .before .before .before
+
+  in-range : (c .before .wide .result < 32) × (16 * c .before .wide .result + c .wide2 .result < 512)
+  in-range =
+      let s = start opened in
+      mark-in-range (s .pre .1) (s .args .entry) (there opened) (told opened (s .pre .1)) (c .before .wide .ensures .0) (c .wide2 .ensures .0)
+
+  free :
+      {t : Study} → Ready (now (start opened .args .file)) (start opened .args .actions) (now (start opened .args .acts)) t
+      → Nowhere ≡ failsOf (barred (now (start opened .args .state)) (actionAt (t .actions) (start opened .args .entry)))
+  free r = sym (c .before .before .enum-told .given .1) ∙ c .before .before .before .before .barred .ensures _ (told opened r)
+
+stops-requires : tie.Need-stops-requires
+stops-requires c κs = search needs
+
+returns : tie.Need-returns
+returns c =
+    let a = c .before .before .before .args in
+    λ t past r s. rw (c .stops .ensures) (takes-14 r s (a .k) (a .entry) (c .before .if1 .taken))
+
+action-at-requires : tie.Need-action-at-requires
+action-at-requires c κs = search needs
+
+barred-requires : tie.Need-barred-requires
+barred-requires c κs = (_, told (c .before) (start (c .before) .pre .1))
+
+enum-known-v : tie.Need-enum-known-v
+enum-known-v c = search needs
+
+stops-requires-2 : tie.Need-stops-requires-2
+stops-requires-2 c κs = search needs
+
+returns-2 : tie.Need-returns-2
+returns-2 c =
+    let v = c .before .before in
+    let b = v .before .before in
+    let o = b .before .before in
+    let a = start o .args in
+    λ t past r s.
+    rw (c .stops2 .ensures) (takes-15 r s (a .k) (a .entry) (there o) (sym (v .v .given .1) ∙ b .barred .ensures _ (told o r)))
+
+enum-told : tie.Need-enum-told
+enum-told c = search needs
+
+wide-requires : tie.Need-wide-requires
+wide-requires c κs = search needs
+
+mul-mark : tie.Need-mul-mark
+mul-mark c = search needs
+
+wide-requires-2 : tie.Need-wide-requires-2
+wide-requires-2 c κs = search needs
+
+add-mark : tie.Need-add-mark
+add-mark c = search needs
+
+element-copy-out-if2 : tie.Need-element-copy-out-if2
+element-copy-out-if2 c = in-range c .1
+
+stops-requires-3 : tie.Need-stops-requires-3
+stops-requires-3 c κs = search needs
+
+returns-3 : tie.Need-returns-3
+returns-3 c =
+    let w = c .before .before .before in
+    let o = opened w in
+    let a = start o .args in
+    λ t past r s.
+    rw (c .stops3 .ensures)
+    (takes-16 r s (a .k) (a .entry) (there o) (free w r) (told o r) (w .before .wide .ensures .0) (w .wide2 .ensures .0) (c .before .if2 .taken))
+
+element-write-held : tie.Need-element-write-held
+element-write-held c = in-range (c .before .before) .1
+
+element-write-state : tie.Need-element-write-state
+element-write-state c = in-range (c .before .before) .0
+
+returns-4 : tie.Need-returns-4
+returns-4 c =
+    let w = c .before .before in
+    let o = opened w in
+    let a = start o .args in
+    λ t past r s. takes-on r s (a .k) (a .entry) (there o) (free w r) (told o r) (w .before .wide .ensures .0) (w .wide2 .ensures .0) (c .if2 .left)
+
+pub take-step-spec : {M : Type 1} → statement M
+take-step-spec =
+    tie.close
+    (tie.spec
+    stops-requires
+    returns
+    action-at-requires
+    barred-requires
+    enum-known-v
+    stops-requires-2
+    returns-2
+    enum-told
+    wide-requires
+    mul-mark
+    wide-requires-2
+    add-mark
+    element-copy-out-if2
+    stops-requires-3
+    returns-3
+    element-write-held
+    element-write-state
+    returns-4)

@@ -1,0 +1,74 @@
+-- How the rows of the actions, the state and the marks answer to the steps of a run.
+-- Assumes nothing.
+use Prim.Native.Nat.{ℕ, _+_, _*_, _≤_, _<_}
+use mathlib.Core.Path.{_≡_}
+use mathlib.Core.Bool.{not}
+use mathlib.Core.List.{List, [], _∷_}
+use lib.Dec.{eqb}
+use lib.ListN.{length, getD, take}
+use Rattle.study.specs.Study.{Action, Study, actionAt, conditionAt}
+use Rattle.lawful.specs.Lawful.{Lawful}
+use Rattle.plans.specs.Plans.{State}
+use Rattle.tables.specs.Tables.{HoldsConditions}
+use Rattle.tables.specs.Rows.{Row, OpensAction}
+use Rattle.tables.specs.declared.Act.{Act}
+use Rattle.runs.specs.Run.{stops, Failing, none, fails, held, away, atGoal, runOn}
+use Rattle.stepping.specs.declared.Fails.{Fails}
+use Rattle.stepping.specs.declared.Fails.the-variants.{Nowhere, At}
+use Rattle.stepping.specs.declared.Turn.{Turn}
+use Rattle.stepping.specs.declared.Turn.the-variants.{On, Stops}
+
+-- the definition's answer as the code gives it
+abbrev pub failsOf : Failing → Fails
+failsOf none = Nowhere
+failsOf (fails v) = At v
+
+-- an opened row tells an action, whose variables are small enough for the table of the state
+pub record Tells (file : List ℕ) (act : Act) (a : Action) : Type 0 where
+  pub var : act .var ≡ a .var
+  pub pre : act .pre ≡ a .pre
+  pub post : act .post ≡ a .post
+  pub conditions : HoldsConditions file (act .place) (act .many) (a .conditions)
+  pub small : a .var < 32
+  pub smalls : (k : ℕ) → k < length (a .conditions) → conditionAt (a .conditions) k .var < 32
+
+-- the rows tell the actions of a lawful study
+pub record Ready (file : List ℕ) (actions : ℕ) (acts : List Row) (t : Study) : Type 0 where
+  pub lawful : Lawful t
+  pub count : actions ≡ length (t .actions)
+  pub action : (i : ℕ) {act : Act} → i < actions → OpensAction acts i act → Tells file act (actionAt (t .actions) i)
+
+-- the state that a table of 32 entries holds
+abbrev pub shown : Study → List ℕ → State
+shown t table = take (length (t .counts)) table
+
+-- the first n variables, with values below 16, at 16 * v + q: not 0 where v has had the value q in one of the states
+pub record Marked (n : ℕ) (marks : List ℕ) (states : List State) : Type 0 where
+  pub long : length marks ≡ 512
+  pub tells : (v q : ℕ) → v < n → q < 16 → eqb (getD marks (16 * v + q) 0) 0 ≡ not (held states v q)
+
+-- the first n variables have values below 16, so that there is a mark for each
+pub record Small (n : ℕ) (table : List ℕ) : Type 0 where
+  pub few : n ≤ 32
+  pub value : (v : ℕ) → v < n → getD table v 0 < 16
+
+pub record Clear (marks : List ℕ) : Type 0 where
+  pub long : length marks ≡ 512
+  pub nothing : (k : ℕ) → k < 512 → getD marks k 0 ≡ 0
+
+-- where a run stands: the present state and the marks of all states so far
+pub record Stage (t : Study) (past : List State) (table marks : List ℕ) : Type 0 where
+  pub long : length table ≡ 32
+  pub marked : Marked (length (t .counts)) marks (shown t table ∷ past)
+
+-- step k, which is action i, whatever follows it
+abbrev pub Takes : Study → List State → ℕ → ℕ → List ℕ → List ℕ → List ℕ → Turn → Type 0
+Takes t past k i table table′ marks′ On =
+    ((rest : List ℕ) → runOn t past (shown t table) k (i ∷ rest) ≡ runOn t (shown t table ∷ past) (shown t table′) (k + 1) rest)
+    × Stage t (shown t table ∷ past) table′ marks′
+Takes t past k i table table′ marks′ (Stops a) = (rest : List ℕ) → runOn t past (shown t table) k (i ∷ rest) ≡ stops a
+
+-- all steps of a list, or the refusal of one of them
+abbrev pub Went : Study → List ℕ → List ℕ → List ℕ → Turn → Type 0
+Went t plan table table′ On = (runOn t [] (shown t table) 0 plan ≡ atGoal (shown t table′) (away (shown t table′) 0 (t .tasks))) × (length table′ ≡ 32)
+Went t plan table table′ (Stops a) = runOn t [] (shown t table) 0 plan ≡ stops a

@@ -1,0 +1,55 @@
+// The steps of a run, on the rows of the actions.
+mod bars;
+mod steps;
+
+ghost use mathlib.Core.Path.{_≡_};
+ghost use mathlib.Core.List.{[], _∷_};
+ghost use lib.ListN.{length, take};
+ghost use Rattle.study.specs.Study.{Study};
+ghost use Rattle.stepping.specs.Stepping.{Ready, Clear, Marked, Small, Went};
+use answer::Answer;
+
+// The first variable that is not at the value asked of it, if there is one.
+pub enum Fails {
+    Nowhere,
+    At(u64),
+}
+
+// What a step, or a list of steps, leads to.
+pub enum Turn {
+    On,
+    Stops(Answer),
+}
+
+// Marks each variable's value as held.
+fn mark_starts(n: usize, state: &[u8; 32], held: &mut [u8; 512])
+    requires { ⌜ Small n (now state) ⌝ }
+    ensures { λ _. ⌜ (Clear (now (held .entry)) → Marked n (now (held .exit)) (take n (now (state .entry)) ∷ [])) ⌝ }
+{
+    let mut v = 0;
+    while v < n {
+        held[16 * v + tables::wide(state[v])] = 1;
+        v += 1;
+    }
+}
+
+// Does the steps of the list, from the state on, until one may not be done; they alter the state.
+pub fn do_steps(
+    file: &[u8],
+    plan: &[u8],
+    n: usize,
+    actions: usize,
+    acts: &[[u8; 6]; 256],
+    state: &mut [u8; 32],
+) -> Turn
+    requires { ⌜ Small n (now state) × ((t : Study) × Ready (now file) actions (now acts) t) ⌝ }
+    ensures { λ r. ⌜ ((t : Study)
+        → Ready (now (file .entry)) actions (now (acts .entry)) t
+        → n ≡ length (t .counts)
+        → length (now (state .entry)) ≡ 32
+        → Went t (now (plan .entry)) (now (state .entry)) (now (state .exit)) r) ⌝ }
+{
+    let mut held = [0u8; 512];
+    mark_starts(n, state, &mut held);
+    steps::steps(file, plan, actions, acts, state, &mut held)
+}

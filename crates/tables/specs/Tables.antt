@@ -1,0 +1,91 @@
+-- The tables that one pass over a file fills, as plain lists, and what it means that they hold a study.
+-- Assumes nothing.
+use Prim.Native.Nat.{ℕ, _+_, _*_, _≤_, _<_}
+use mathlib.Core.Path.{_≡_}
+use mathlib.Core.List.{List}
+use lib.ListN.{length, getD}
+use Rattle.study.specs.Study.{Condition, Action, Task, Study, actionAt, taskAt, conditionAt}
+use Rattle.study.specs.Reading.{says, refused, reading}
+use Rattle.tables.specs.declared.Loaded.{Loaded}
+use Rattle.tables.specs.declared.Loaded.the-variants as Said-of
+
+-- by variable and value, at 16 * v + q: the action that sets it;
+-- by action: its variable, pre and post, the place of its first condition in the file, and how many it has
+pub record ActionTables : Type 0 where
+  pub setters : List ℕ
+  pub vars : List ℕ
+  pub pres : List ℕ
+  pub posts : List ℕ
+  pub places : List ℕ
+  pub manys : List ℕ
+
+-- by variable: how many values, its start and its goal
+pub record Tables : Type 0 where
+  pub counts : List ℕ
+  pub acts : ActionTables
+  pub starts : List ℕ
+  pub goals : List ℕ
+
+abbrev pub actionTables : (setters vars pres posts places manys : List ℕ) → ActionTables
+actionTables setters vars pres posts places manys =
+    record { setters = setters; vars = vars; pres = pres; posts = posts; places = places; manys = manys }
+
+abbrev pub tables : List ℕ → ActionTables → List ℕ → List ℕ → Tables
+tables counts acts starts goals = record { counts = counts; acts = acts; starts = starts; goals = goals }
+
+-- the tables are as long as their types say
+pub record Sized (t : Tables) : Type 0 where
+  pub counts : length (t .counts) ≡ 32
+  pub setters : length (t .acts .setters) ≡ 512
+  pub vars : length (t .acts .vars) ≡ 256
+  pub pres : length (t .acts .pres) ≡ 256
+  pub posts : length (t .acts .posts) ≡ 256
+  pub places : length (t .acts .places) ≡ 256
+  pub manys : length (t .acts .manys) ≡ 256
+  pub starts : length (t .starts) ≡ 32
+  pub goals : length (t .goals) ≡ 32
+
+pub record HoldsCounts (n : ℕ) (table counts : List ℕ) : Type 0 where
+  pub count : n ≡ length counts
+  pub few : n ≤ 32
+  pub small : (v : ℕ) → v < n → getD table v 0 ≤ 16
+  pub value : (v : ℕ) → v < n → getD table v 0 ≡ getD counts v 0
+
+-- condition k of an action stands in the file at the place of its first and 3 bytes for each before it: kind, variable, value
+pub record HoldsConditions (file : List ℕ) (place many : ℕ) (conditions : List Condition) : Type 0 where
+  pub count : many ≡ length conditions
+  pub room : place + 3 * many ≤ length file
+  pub var : (k : ℕ) → k < many → getD file (place + 3 * k + 1) 0 ≡ conditionAt conditions k .var
+  pub value : (k : ℕ) → k < many → getD file (place + 3 * k + 2) 0 ≡ conditionAt conditions k .value
+
+-- action i of the tables; `found`: the table of setters names it for the value that it sets
+pub record HoldsAction (file : List ℕ) (t : ActionTables) (i : ℕ) (a : Action) : Type 0 where
+  pub var : getD (t .vars) i 0 ≡ a .var
+  pub pre : getD (t .pres) i 0 ≡ a .pre
+  pub post : getD (t .posts) i 0 ≡ a .post
+  pub narrow : a .post < 16
+  pub found : getD (t .setters) (16 * a .var + a .post) 0 ≡ i
+  pub conditions : HoldsConditions file (getD (t .places) i 0) (getD (t .manys) i 0) (a .conditions)
+
+pub record HoldsActions (file : List ℕ) (n : ℕ) (t : ActionTables) (actions : List Action) : Type 0 where
+  pub count : n ≡ length actions
+  pub few : n ≤ 256
+  pub action : (i : ℕ) → i < n → HoldsAction file t i (actionAt actions i)
+
+pub record HoldsTasks (n : ℕ) (starts goals : List ℕ) (tasks : List Task) : Type 0 where
+  pub count : n ≡ length tasks
+  pub start : (v : ℕ) → v < n → getD starts v 0 ≡ taskAt tasks v .start
+  pub goal : (v : ℕ) → v < n → getD goals v 0 ≡ taskAt tasks v .goal
+
+-- the tables, with the numbers of variables and actions and the seed, hold the study that a file says
+pub record Holds (file : List ℕ) (nv na x : ℕ) (t : Tables) (s : Study) : Type 0 where
+  pub sized : Sized t
+  pub counts : HoldsCounts nv (t .counts) (s .counts)
+  pub actions : HoldsActions file na (t .acts) (s .actions)
+  pub tasks : HoldsTasks nv (t .starts) (t .goals) (s .tasks)
+  pub seed : x ≡ s .seed
+
+-- what is loaded answers to what the file says
+abbrev pub Loads : List ℕ → Tables → Loaded → Type 0
+Loads file t (Said-of.Study vars actions seed) = (s : Study) × (reading file ≡ says s) × Holds file vars actions seed t s
+Loads file t (Said-of.Refused n place) = reading file ≡ refused n place

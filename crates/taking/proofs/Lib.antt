@@ -1,0 +1,8 @@
+pub mod Alike
+pub mod Between
+pub mod Holding
+pub mod KeyRounds
+pub mod Lowered
+pub mod OneMore
+pub mod StillWanted
+pub mod TakingRounds
