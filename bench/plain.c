@@ -1,6 +1,6 @@
 /* Document 01's calls in plain C, written for speed and proved nowhere: what the library is measured against. Each section
- * of the file has a loop of its own, no table is cleared that need not be, and while planning a variable is looked at again
- * only when what it waits for has come. */
+ * of the file has a loop of its own, no table is cleared that need not be, and while planning nothing is looked at again
+ * before what it waits for has come. */
 #include "plain.h"
 
 void *memcpy(void *to, const void *from, size_t len);
@@ -87,7 +87,7 @@ static answer load(const uint8_t *f, size_t len, study *s) {
   return three(0, a, n);
 }
 
-/* Planning. `ready` has a bit for each rank whose action may be taken now. */
+/* Planning more than 64 actions. `ready` has a bit for each rank whose action may be taken now. */
 typedef struct {
   const uint8_t *file, *ranks;
   study *s;
@@ -128,7 +128,7 @@ static int lowest(const uint64_t ready[4]) {
 
 static const answer fine = {0, 0, 0};
 
-/* The parts of `plan_loaded`: compiled into it, so that cutting it up costs nothing. */
+/* A part of one function: compiled into it, so that cutting it up costs nothing. */
 #define PART static inline __attribute__((always_inline))
 
 /* Traces the walks back from the goals: the number of their actions, or refusal 10. */
@@ -190,7 +190,98 @@ PART void look_first(planner *p, const study *s, unsigned n) {
   for (unsigned v = 0; v < n; v++) look(p, v);
 }
 
-static answer plan_loaded(const uint8_t *f, const uint8_t *ranks, study *s, uint8_t *plan, size_t plan_len) {
+/* Planning up to 64 actions: they are known by rank, and a set of ranks is one word. An action that may not be taken yet hangs
+ * on the highest rank that has to come before it, and is looked at again when that one is taken. */
+typedef struct {
+  uint64_t before[64];               /* by rank: those that come directly before */
+  uint64_t hung[64];                 /* by rank: those that hang on it */
+  uint64_t ready;                    /* those that may be taken now */
+  uint64_t left;                     /* those on walks that are not taken */
+  uint64_t walk;                     /* the same by index, before any was taken */
+  uint16_t met[MOST_VARIABLES * 16]; /* how the walk meets a value, 0 if it does not */
+  uint8_t action[64];                /* by rank */
+} ranked;
+
+/* In `met` the rank that sets the value stands in bits 0 to 5, the rank that leaves it in bits 7 to 12. */
+enum { FEW = 64, SETS = 1 << 6, LEAVES = 1 << 13, ON_WALK = 1 << 14 };
+
+PART uint64_t only(unsigned rank) { return 1ull << rank; }
+
+/* Traces the walks back from the goals: the number of their actions, or refusal 10. */
+PART answer trace_ranked(ranked *p, const study *s, const uint8_t *ranks) {
+  unsigned total = 0, n = s->variables;
+  memset(p->met, 0, 32 * n);
+  p->left = p->walk = p->ready = 0;
+  for (unsigned v = 0; v < n; v++) {
+    uint16_t *met = p->met + 16 * v;
+    unsigned q = s->goals[v], here = ON_WALK, after = 0;
+    for (; q != s->starts[v]; total++) {
+      if (!(s->set[v] >> q & 1)) return refused(10, v);
+      unsigned i = s->setter[16 * v + q], r = ranks[i];
+      met[q] = (uint16_t)(here | SETS | r);
+      p->before[r] = p->hung[r] = 0;
+      if (here & LEAVES) p->before[after] = only(r);
+      p->action[r] = (uint8_t)i;
+      p->walk |= only(i);
+      p->left |= only(r);
+      q = s->pre[i];
+      if (met[q]) return refused(10, v);
+      here = ON_WALK | LEAVES | r << 7;
+      after = r;
+    }
+    met[q] = (uint16_t)here;
+  }
+  return three(0, total, 0);
+}
+
+/* An action comes after those that set what it wants, and before those that leave it; or refusal 11. */
+PART answer order_ranked(ranked *p, const study *s, const uint8_t *f, const uint8_t *ranks) {
+  for (uint64_t some = p->walk; some; some &= some - 1) {
+    unsigned i = (unsigned)__builtin_ctzll(some), r = ranks[i];
+    uint64_t sets = 0;
+    for (unsigned at = s->place[i], end = s->end[i]; at < end; at += 3) {
+      unsigned met = p->met[16 * f[at + 1] + f[at + 2]];
+      if (!met) return three(11, i, f[at + 1]);
+      sets |= (uint64_t)(met >> 6 & 1) << (met & 63);
+      p->before[met >> 7 & 63] |= (uint64_t)(met >> 13 & 1) << r;
+    }
+    p->before[r] |= sets;
+  }
+  return fine;
+}
+
+PART void hang(ranked *p, unsigned r) {
+  uint64_t missing = p->before[r] & p->left;
+  if (missing)
+    p->hung[63 - __builtin_clzll(missing)] |= only(r);
+  else
+    p->ready |= only(r);
+}
+
+static answer plan_few(const uint8_t *f, const uint8_t *ranks, study *s, uint8_t *plan, size_t plan_len) {
+  ranked p;
+  uint8_t out[FEW];
+  answer traced = trace_ranked(&p, s, ranks);
+  if (traced.number != 0) return traced;
+  answer ordered = order_ranked(&p, s, f, ranks);
+  if (ordered.number != 0) return ordered;
+  for (uint64_t some = p.left; some; some &= some - 1) hang(&p, (unsigned)__builtin_ctzll(some));
+  unsigned total = (unsigned)traced.first;
+  for (unsigned k = 0; k < total; k++) {
+    uint64_t ready = p.ready;
+    if (!ready) return refused(12, k);
+    unsigned r = (unsigned)__builtin_ctzll(ready);
+    p.ready = ready & (ready - 1);
+    p.left &= ~only(r);
+    out[k] = p.action[r];
+    for (uint64_t some = p.hung[r]; some; some &= some - 1) hang(&p, (unsigned)__builtin_ctzll(some));
+  }
+  if (plan_len < total) return refused(13, total);
+  memcpy(plan, out, total);
+  return three(0, total, 0);
+}
+
+static answer plan_many(const uint8_t *f, const uint8_t *ranks, study *s, uint8_t *plan, size_t plan_len) {
   planner p;
   uint64_t walk[4] = {0, 0, 0, 0};
   uint8_t by_rank[MOST_ACTIONS], out[MOST_ACTIONS];
@@ -212,6 +303,10 @@ static answer plan_loaded(const uint8_t *f, const uint8_t *ranks, study *s, uint
   if (plan_len < total) return refused(13, total);
   memcpy(plan, out, total);
   return three(0, total, 0);
+}
+
+static answer plan_loaded(const uint8_t *f, const uint8_t *ranks, study *s, uint8_t *plan, size_t plan_len) {
+  return (s->actions <= FEW ? plan_few : plan_many)(f, ranks, s, plan, plan_len);
 }
 
 /* The index of the first entry that is no rank or repeats one, or the count. */
