@@ -1,6 +1,6 @@
 -- 10, 11 and 12 do not depend on the ranks, nor on the buffer: a file that is refused so is refused with the same three numbers whatever rank list and buffer are lent, and with its own seed.
 -- Assumes nothing.
-use Prim.Native.Nat.{ℕ, _≤_}
+use Prim.Native.Nat.{ℕ}
 use mathlib.Core.Path.{_≡_, sym, _∙_}
 use mathlib.Core.Logic.{_⊎_, inl, inr}
 use mathlib.Core.List.{List}
@@ -8,16 +8,13 @@ use Rattle.answer.specs.declared.Answer.{Answer}
 use Rattle.study.specs.Study.{Study}
 use Rattle.study.specs.Reading.{Said, says, refused, reading}
 use Rattle.lawful.proofs.Loads.{LawfulIfSaid, reading-lawful}
+use Rattle.planning.specs.Refusals.{NoPlanCanBe}
 use Rattle.planning.specs.Planning.{PlansFile, PlanAllows}
 use Rattle.planning.specs.Seeded.{seedRanks, SeededAllows}
 use Rattle.planning.proofs.Exact.{rank-list-not-9}
 use Rattle.planning.proofs.Alike.{barred-alike}
 use Rattle.demands.specs.Words.{LoadsAs, RanksFor}
 use Rattle.demands.proofs.Demand3.{seeded-never-answers-9}
-
--- there is no straight plan, and neither file nor ranks are at fault: 10, 11 or 12
-abbrev pub NoPlanCanBe : Answer → Type 0
-NoPlanCanBe r = (10 ≤ r .number) × (r .number ≤ 12)
 
 said-alike :
     (said : Said) → LawfulIfSaid said → (ranks before : List ℕ) (r : Answer) (after : List ℕ) → PlansFile said ranks before r after → NoPlanCanBe r

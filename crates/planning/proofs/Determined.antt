@@ -5,7 +5,6 @@ use native.Mathlib.Omega.{arith}
 use mathlib.Core.Path.{_≡_, refl, sym, _∙_}
 use mathlib.Core.List.{List}
 use lib.ListN.{length}
-use Rattle.answer.specs.Answers.{three}
 use Rattle.answer.specs.declared.Answer.{Answer}
 use Rattle.ranking.specs.Ranking.{tested}
 use Rattle.ranking.specs.declared.Tested.{Tested}
@@ -48,7 +47,7 @@ off-determined {t} {i} {u} {j} {w} a b =
     (e, omega (arith, variable-not-below a c, variable-not-below c a))
 
 -- 10, 11, 12: one bar, as an earlier one bars what a later one takes for given
-pub barred-determined : {t : Study} {n x y n′ x′ y′ : ℕ} → Barred t n x y → Barred t n′ x′ y′ → three n x y ≡ three n′ x′ y′
+pub barred-determined : {t : Study} {r r′ : Answer} → Barred t r → Barred t r′ → r ≡ r′
 barred-determined (without a) (without b) = let e = without-determined a b in cc
 barred-determined (without a) (off walks b) = absurd (without-bars-walks a walks)
 barred-determined (without a) (on-ring walks met c n) = absurd (without-bars-walks a walks)

@@ -13,6 +13,7 @@ use Rattle.ranking.proofs.Fine.{rank-list-is-fine}
 use Rattle.study.specs.Study.{Study}
 use Rattle.lawful.specs.Lawful.{Lawful}
 use Rattle.plans.specs.Plans.{StraightPlan}
+use Rattle.planning.specs.Refusals.{NoPlanCanBe}
 use Rattle.planning.specs.Planning.{FirstPlan, Plans}
 use Rattle.planning.proofs.Found.{straight-equally-long}
 use Rattle.planning.proofs.Ways.{short, fits, Way, at-fault, barred, planned, way-of, barred-number, barred-has-none}
@@ -32,10 +33,10 @@ module _ {t : Study} {ranks before : List ℕ} where
       from (planned {list = list} fine p l) h = (list, p .straight)
 
   pub answer-10-11-12-has-none :
-      {r : Answer} {after : List ℕ} → Lawful t → Plans t ranks before r after → (10 ≤ r .number) × (r .number ≤ 12) → (list : List ℕ) → StraightPlan t list → ⊥
+      {r : Answer} {after : List ℕ} → Lawful t → Plans t ranks before r after → NoPlanCanBe r → (list : List ℕ) → StraightPlan t list → ⊥
   answer-10-11-12-has-none lawful p = from (way-of p)
     where
-      from : {r : Answer} {after : List ℕ} → Way t ranks before r after → (10 ≤ r .number) × (r .number ≤ 12) → (list : List ℕ) → StraightPlan t list → ⊥
+      from : {r : Answer} {after : List ℕ} → Way t ranks before r after → NoPlanCanBe r → (list : List ℕ) → StraightPlan t list → ⊥
       from (at-fault f) h list p = omega arith
       from (barred fine b) h list p = barred-has-none lawful b p
       from (planned fine q (short l)) h list p = omega arith

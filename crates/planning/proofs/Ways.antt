@@ -5,7 +5,7 @@ use native.Mathlib.Omega.{arith}
 use mathlib.Core.Path.{_≡_, refl}
 use mathlib.Core.List.{List, _++_}
 use lib.ListN.{length, drop}
-use Rattle.answer.specs.Answers.{three, done, refusal}
+use Rattle.answer.specs.Answers.{three, done}
 use Rattle.answer.specs.declared.Answer.{Answer}
 use Rattle.ranking.specs.Ranking.{tested}
 use Rattle.ranking.specs.declared.Tested.{Tested}
@@ -15,6 +15,7 @@ use Rattle.lawful.specs.Lawful.{Lawful}
 use Rattle.plans.specs.Plans.{StraightPlan}
 use Rattle.orders.specs.Orders.{OnRing}
 use Rattle.walks.specs.Walks.{OnAWalk, ComesBefore, Walks, Met}
+use Rattle.planning.specs.Refusals.{withoutWalk, offWalk, withRing, shortBuffer, NoPlanCanBe}
 use Rattle.planning.specs.Planning.{LowestWithout, LowestOff, FreeOfRings, FirstPlan, Plans, wrong-length, wrong-entry, no-walk, off-walk, ring, no-room, a-plan}
 use Rattle.planning.proofs.Bars.{without-bars-plans, off-bars-plans, ring-bars-plans}
 
@@ -25,21 +26,19 @@ Fault ranks Length first second = (first ≡ length ranks) × (second ≡ 1)
 Fault ranks (Entry k) first second = (first ≡ k) × (second ≡ 0)
 
 -- 10, 11, 12: what bars every straight plan
-pub data Barred (t : Study) : ℕ → ℕ → ℕ → Type 0 where
-  without : {v : ℕ} → LowestWithout t v → Barred t 10 v 0
-  off : {i u : ℕ} → Walks t → LowestOff t i u → Barred t 11 i u
-  on-ring : {n x : ℕ} → Walks t → Met t → OnRing (OnAWalk t) (ComesBefore t) x → FreeOfRings t n → Barred t 12 n 0
+pub data Barred (t : Study) : Answer → Type 0 where
+  without : {v : ℕ} → LowestWithout t v → Barred t (withoutWalk v)
+  off : {i u : ℕ} → Walks t → LowestOff t i u → Barred t (offWalk i u)
+  on-ring : {n x : ℕ} → Walks t → Met t → OnRing (OnAWalk t) (ComesBefore t) x → FreeOfRings t n → Barred t (withRing n)
 
 -- 13, 0: a plan is laid in the buffer, if that has room
 pub data Laid (list before : List ℕ) : Answer → List ℕ → Type 0 where
-  short : length before < length list → Laid list before (refusal 13 (length list)) before
+  short : length before < length list → Laid list before (shortBuffer (length list)) before
   fits : length list ≤ length before → Laid list before (done (length list) 0) (list ++ drop (length list) before)
 
 pub data Way (t : Study) (ranks before : List ℕ) : Answer → List ℕ → Type 0 where
   at-fault : {first second : ℕ} → Fault ranks (tested ranks (length (t .actions))) first second → Way t ranks before (three 9 first second) before
-  barred :
-      {number first second : ℕ} → tested ranks (length (t .actions)) ≡ Fine → Barred t number first second
-      → Way t ranks before (three number first second) before
+  barred : {r : Answer} → tested ranks (length (t .actions)) ≡ Fine → Barred t r → Way t ranks before r before
   planned :
       {list after : List ℕ} {r : Answer} → tested ranks (length (t .actions)) ≡ Fine → FirstPlan t ranks list → Laid list before r after
       → Way t ranks before r after
@@ -53,12 +52,12 @@ way-of (ring fine walks met c n) = barred fine (on-ring walks met c n)
 way-of (no-room fine p h) = planned fine p (short h)
 way-of (a-plan fine p h) = planned fine p (fits h)
 
-pub barred-number : {t : Study} {n x y : ℕ} → Barred t n x y → (10 ≤ n) × (n ≤ 12)
+pub barred-number : {t : Study} {r : Answer} → Barred t r → NoPlanCanBe r
 barred-number (without l) = omega arith
 barred-number (off walks l) = omega arith
 barred-number (on-ring walks met c n) = omega arith
 
-pub barred-has-none : {t : Study} {n x y : ℕ} {list : List ℕ} → Lawful t → Barred t n x y → StraightPlan t list → ⊥
+pub barred-has-none : {t : Study} {r : Answer} {list : List ℕ} → Lawful t → Barred t r → StraightPlan t list → ⊥
 barred-has-none lawful (without l) p = without-bars-plans lawful p l
 barred-has-none lawful (off walks l) p = off-bars-plans lawful p l
 barred-has-none lawful (on-ring walks met c n) p = ring-bars-plans lawful p c

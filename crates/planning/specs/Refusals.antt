@@ -1,6 +1,6 @@
 -- Document 01's numbers for each refusal of planning.
 -- Assumes nothing.
-use Prim.Native.Nat.{ℕ}
+use Prim.Native.Nat.{ℕ, _≤_}
 use Rattle.answer.specs.Answers.{three, done, refusal}
 use Rattle.answer.specs.declared.Answer.{Answer}
 use Rattle.ranking.specs.declared.Tested.{Tested}
@@ -23,6 +23,10 @@ offWalk i u = three 11 i u
 -- 12: the walk actions have a ring, and so many are free of rings
 abbrev pub withRing : ℕ → Answer
 withRing n = refusal 12 n
+
+-- there is no straight plan, and neither file nor ranks are at fault: 10, 11 or 12
+abbrev pub NoPlanCanBe : Answer → Type 0
+NoPlanCanBe r = (10 ≤ r .number) × (r .number ≤ 12)
 
 -- 13: the buffer is too short for a plan so long
 abbrev pub shortBuffer : ℕ → Answer

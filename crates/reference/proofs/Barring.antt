@@ -8,7 +8,6 @@ use mathlib.Core.Option.{Option, none, some}
 use mathlib.Core.List.{List, [], _∷_}
 use lib.Dec.{eqb}
 use lib.ListN.{length}
-use Rattle.answer.specs.Answers.{three, refusal}
 use Rattle.answer.specs.declared.Answer.{Answer}
 use Rattle.study.specs.Study.{Condition, Study}
 use Rattle.lawful.specs.Lawful.{Lawful}
@@ -17,6 +16,7 @@ use Rattle.walks.specs.Traces.{walkOf}
 use Rattle.walks.proofs.Leads.{on-walk-usable}
 use Rattle.walks.proofs.Wanted.{wanted-there}
 use Rattle.walks.proofs.Traces.{WalkOf, found, none-there, walk-of-tells}
+use Rattle.planning.specs.Refusals.{withoutWalk, offWalk}
 use Rattle.planning.specs.Planning.{LowestWithout, LowestOff}
 use Rattle.reference.proofs.Tests.{Says, holds, fails, settled, says-same, says-equal, says-not, says-both, says-either}
 use Rattle.reference.proofs.Searching.{lowest, Lowest, is-lowest, is-nowhere, lowest-tells}
@@ -42,8 +42,8 @@ orZero (some n) = n
 
 -- 10, 11, or nothing
 abbrev pub barredBy : Option ℕ → Option ℕ → (ℕ → ℕ) → Option Answer
-barredBy (some v) o f = some (refusal 10 v)
-barredBy none (some i) f = some (three 11 i (f i))
+barredBy (some v) o f = some (withoutWalk v)
+barredBy none (some i) f = some (offWalk i (f i))
 barredBy none none f = none
 
 unfoldable pub barred : Study → Option Answer
@@ -52,8 +52,8 @@ barred t = barredBy (lowestWithout t) (offAction t) (λ i. orZero (offVariable t
 -- ---- what is found
 
 pub data Bar (t : Study) : Option Answer → Type 0 where
-  lacks-walk : {v : ℕ} → LowestWithout t v → Bar t (some (refusal 10 v))
-  off-its-walk : {i u : ℕ} → Walks t → LowestOff t i u → Bar t (some (three 11 i u))
+  lacks-walk : {v : ℕ} → LowestWithout t v → Bar t (some (withoutWalk v))
+  off-its-walk : {i u : ℕ} → Walks t → LowestOff t i u → Bar t (some (offWalk i u))
   no-bar : Walks t → Met t → Bar t none
 
 -- a variable of a condition off its walk
@@ -101,7 +101,7 @@ module _ {t : Study} (lawful : Lawful t) where
 
   off-at :
       Walks t → (i : ℕ) → OnAWalk t i → SomeOff t i → ((j : ℕ) → j < i → OnAWalk t j × SomeOff t j → ⊥)
-      → {o : Option ℕ} → Lowest (OffAt t (conditionsOf t i)) (length (t .counts)) o → Bar t (some (three 11 i (orZero o)))
+      → {o : Option ℕ} → Lowest (OffAt t (conditionsOf t i)) (length (t .counts)) o → Bar t (some (offWalk i (orZero o)))
   off-at walks i on some-off lower (is-lowest {x = u} _ (q, (w, m)) l) =
       off-its-walk walks (record {
         on-walk = on;

@@ -9,7 +9,7 @@ use mathlib.Core.List.{List, [], _++_}
 use lib.Dec.{ltb}
 use lib.ListN.{length, drop}
 use Rattle.plain.specs.Choose.{pick}
-use Rattle.answer.specs.Answers.{three, done, refusal}
+use Rattle.answer.specs.Answers.{done, refusal}
 use Rattle.answer.specs.declared.Answer.{Answer}
 use Rattle.ranking.specs.Ranking.{tested}
 use Rattle.ranking.specs.declared.Tested.{Tested}
@@ -21,6 +21,7 @@ use Rattle.lawful.specs.Lawful.{Lawful}
 use Rattle.lawful.proofs.Loads.{LawfulIfSaid}
 use Rattle.orders.specs.Orders.{In, None, Greedy}
 use Rattle.walks.specs.Walks.{OnAWalk, ComesBefore, Walks, Met}
+use Rattle.planning.specs.Refusals.{notRanked, withRing, shortBuffer}
 use Rattle.planning.specs.Planning.{rankIn, FirstPlan, Plans, wrong-length, wrong-entry, no-walk, off-walk, ring, no-room, a-plan, PlansFile}
 use Rattle.planning.proofs.Found.{greedy-is-first-plan, greedy-stuck}
 use Rattle.reference.proofs.Tests.{Says, holds, fails, settled, says-not, says-below, among, says-among}
@@ -49,12 +50,12 @@ leftOut t list = least (λ x. not (among list x)) (λ i. i) (walkActions t)
 -- 13, 0
 abbrev pub laid : List ℕ → List ℕ → Outcome
 laid list before =
-    pick (ltb (length before) (length list)) (gives (refusal 13 (length list)) before) (gives (done (length list) 0) (list ++ drop (length list) before))
+    pick (ltb (length before) (length list)) (gives (shortBuffer (length list)) before) (gives (done (length list) 0) (list ++ drop (length list) before))
 
 -- 12
 abbrev pub unlessLeft : Option ℕ → List ℕ → List ℕ → Outcome
 unlessLeft none list before = laid list before
-unlessLeft (some x) list before = gives (refusal 12 (length list)) before
+unlessLeft (some x) list before = gives (withRing (length list)) before
 
 -- 10, 11
 abbrev pub unlessBarred : Option Answer → List ℕ → Outcome → Outcome
@@ -64,8 +65,8 @@ unlessBarred (some r) before o = gives r before
 -- 9
 abbrev pub ifFine : Tested → List ℕ → List ℕ → Outcome → Outcome
 ifFine Fine ranks before o = o
-ifFine Length ranks before o = gives (three 9 (length ranks) 1) before
-ifFine (Entry k) ranks before o = gives (refusal 9 k) before
+ifFine Length ranks before o = gives (notRanked (length ranks) Length) before
+ifFine (Entry k) ranks before o = gives (notRanked (length ranks) (Entry k)) before
 
 unfoldable pub planned : Study → List ℕ → List ℕ → Outcome
 planned t ranks before =
@@ -98,7 +99,7 @@ module _ {t : Study} (lawful : Lawful t) where
       where
         go :
             {b : Bool} → Says (length before < length list) b
-            → Allowed (pick b (gives (refusal 13 (length list)) before) (gives (done (length list) 0) (list ++ drop (length list) before)))
+            → Allowed (pick b (gives (shortBuffer (length list)) before) (gives (done (length list) 0) (list ++ drop (length list) before)))
         go (holds h) = no-room fine first h
         go (fails n) = a-plan fine first (omega arith)
 
