@@ -13,7 +13,7 @@ use Rattle.tables.specs.Rows.{Row, varColumn, preColumn, postColumn, placeColum
 use Rattle.walks.specs.Walks.{startOf}
 use Rattle.tracing.specs.Facts.{Tells, Wishes, Deeds}
 use Rattle.tracing.specs.Steps.{Rowed, Members}
-use Rattle.taking.specs.Taking.{Prepared}
+use Rattle.taking.specs.Taking.{PreparedRows}
 
 -- the tables hold a lawful study
 pub record Known (file : List ℕ) (n a x : ℕ) (acts : ActionTables) (starts goals : List ℕ) (t : Study) : Type 0 where
@@ -56,4 +56,4 @@ WalkingIn file ranks n a total acts steps state t =
 
 abbrev pub PreparedIn : List ℕ → List ℕ → ℕ → ℕ → List Row → List ℕ → List ℕ → List ℕ → Study → Type 0
 PreparedIn file ranks n total acts steps wants state t =
-    Prepared file n (length ranks) total (varColumn acts) (postColumn acts) (placeColumn acts) (manyColumn acts) steps wants state t
+    PreparedRows file n (length ranks) total acts steps wants state t

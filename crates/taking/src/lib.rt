@@ -1,10 +1,8 @@
 // Takes one ready walk action after another, always the one of least rank.
 ghost use mathlib.Core.Path.{_≡_};
-ghost use Prim.Native.Nat.{_≤_};
-ghost use lib.ListN.{length, take};
+ghost use lib.ListN.{length};
 ghost use Rattle.study.specs.Study.{Study};
-ghost use Rattle.tables.specs.Rows.{varColumn, postColumn, placeColumn, manyColumn};
-ghost use Rattle.taking.specs.Taking.{Prepared, TakenGreedily};
+ghost use Rattle.taking.specs.Taking.{PreparedRows, TakesAll};
 
 // Waits for no variable.
 const NOTHING: u8 = 255;
@@ -23,14 +21,9 @@ pub fn take_all(
     out: &mut [u8; 256],
 ) -> usize
     requires { ⌜ (length (now wants) ≡ 512) × (length (now state) ≡ 32) × (length (now out) ≡ 256)
-        × ((t : Study)
-        × Prepared (now file) n (length (now ranks)) total (varColumn (now acts)) (postColumn (now acts)) (placeColumn (now acts)) (manyColumn (now acts))
-        (now steps) (now wants) (now state) t) ⌝ }
-    ensures { λ r. ⌜ (r ≤ total) × (length (now (out .exit)) ≡ 256) ⌝ }
-    ensures { λ r. ⌜ ((t : Study)
-        → Prepared (now (file .entry)) n (length (now (ranks .entry))) total (varColumn (now (acts .entry))) (postColumn (now (acts .entry)))
-        (placeColumn (now (acts .entry))) (manyColumn (now (acts .entry))) (now (steps .entry)) (now (wants .entry)) (now (state .entry)) t
-        → TakenGreedily t (now (ranks .entry)) (take r (now (out .exit)))) ⌝ }
+        × ((t : Study) × PreparedRows (now file) n (length (now ranks)) total (now acts) (now steps) (now wants) (now state) t) ⌝ }
+    ensures { λ r. ⌜ TakesAll (now (file .entry)) n (now (ranks .entry)) total (now (acts .entry)) (now (steps .entry)) (now (wants .entry))
+        (now (state .entry)) r (now (out .exit)) ⌝ }
 {
     let mut held = [0u8; 32];
     let mut full = [keys::SHUT; 32];
