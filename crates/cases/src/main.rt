@@ -23,6 +23,9 @@ const CASE: u64 = 0x23;
 
 const FILE: u64 = 0x66696c65;
 
+// One byte more than the longest file has.
+const ROOM: usize = 25031;
+
 fn main() {
     let mut text = [0u8; 262144];
     let n = io::read_full(STDIN_FILENO, &mut text);
@@ -30,7 +33,7 @@ fn main() {
 }
 
 fn lines(text: &[u8]) {
-    let mut file = [0u8; 25031];
+    let mut file = [0u8; ROOM];
     let mut n = 0usize;
     let mut buffer = [170u8; 272];
     let mut at = 0;
@@ -52,11 +55,11 @@ fn lines(text: &[u8]) {
 }
 
 // Answers how long the file then is.
-fn edit(line: &[u8], file: &mut [u8; 25031]) -> usize {
+fn edit(line: &[u8], file: &mut [u8; ROOM]) -> usize {
     bytes(line, 2, file, number(line, 1) as usize)
 }
 
-fn call(line: &[u8], file: &[u8; 25031], n: usize, buffer: &mut [u8; 272]) {
+fn call(line: &[u8], file: &[u8; ROOM], n: usize, buffer: &mut [u8; 272]) {
     show::text(line);
     show::text_and_number(b" of", n as u64);
     if !made(line, front(file, n), buffer) {

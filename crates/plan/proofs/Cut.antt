@@ -2,12 +2,13 @@
 -- Assumes nothing.
 use mathlib.Core.Path.{_≡_, _∙_}
 use mathlib.Core.List.{List}
-use Prim.Native.Nat.{ℕ, _≤_}
+use Prim.Native.Nat.{ℕ, _≤_, _<_}
 use native.Mathlib.Omega.{arith}
 use lib.ListN.{length}
 use borrow.Author.Tests.{ne-eqb}
 use Rattle.study.specs.Reading.{refused, reading}
 use Rattle.study.proofs.Refusals.{refusals-numbered}
+use Rattle.lawful.specs.Lengths.{longestFile}
 use Rattle.lawful.proofs.Lengths.{longer-is-refused}
 use Rattle.telling.specs.Text.{refusedLine}
 use Rattle.plan.specs.Printed.{Printed}
@@ -16,8 +17,8 @@ refusal-printed : (number place : ℕ) → 1 ≤ number → {text : List ℕ} �
 refusal-printed number place some p = p .told ∙ (rw (p .plans .0, ne-eqb number 0 (omega arith)))
 
 pub cut-file-is-refused :
-    (file : List ℕ) → 25031 ≤ length file → {text : List ℕ} → Printed (reading file) text
+    (file : List ℕ) → longestFile < length file → {text : List ℕ} → Printed (reading file) text
     → (number : ℕ) × ((place : ℕ) × (text ≡ refusedLine number place 0))
 cut-file-is-refused file long p =
-    let (number, (place, said)) = longer-is-refused file (omega arith) in
+    let (number, (place, said)) = longer-is-refused file long in
     (number, (place, refusal-printed number place ((rw said at (refusals-numbered file)) .0) (rw said at p)))

@@ -1,20 +1,31 @@
 // Plans the study file on standard input with its own seed, and prints the plan or the refusal.
 ghost use mathlib.Core.Path.{_≡_};
-ghost use Prim.Native.Nat.{ℕ, _≤_, _<_};
+ghost use Prim.Native.Nat.{ℕ, suc, _≤_, _<_};
 ghost use lib.ListN.{length, getD, take};
 ghost use Rattle.io.specs.Counts.{Counts};
 ghost use Rattle.study.specs.Study.{Study};
 ghost use Rattle.study.specs.Reading.{reading, says};
+ghost use Rattle.lawful.specs.Lengths.{longestFile};
 ghost use Rattle.telling.specs.Text.{shownOf, planText};
 ghost use Rattle.plan.specs.Printed.{Printed};
 use libc::STDIN_FILENO;
 use libc::STDOUT_FILENO;
 
-// One byte more than the longest file: of a longer one these bytes are planned, and refused.
+// One byte more than the longest file has, as `read` asks: of a longer one these bytes are planned, and refused.
+const ROOM: usize = 25031;
+
 fn main() {
-    let mut file = [0u8; 25031];
-    let n = io::read_full(STDIN_FILENO, &mut file);
+    let mut file = [0u8; ROOM];
+    let n = read(&mut file);
     print(&file[..n]);
+}
+
+// Fills the buffer from standard input, and answers how many bytes came.
+fn read(file: &mut [u8]) -> usize
+    requires { ⌜ length (now file) ≡ suc longestFile ⌝ }
+    ensures { λ r. ⌜ Counts r (now (file .exit)) ⌝ }
+{
+    io::read_full(STDIN_FILENO, file)
 }
 
 fn print(file: &[u8]) {
