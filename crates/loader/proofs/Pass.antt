@@ -13,8 +13,9 @@ use Rattle.entering.specs.declared.Step.the-variants.{On, Refused, Done}
 use Rattle.tables.specs.declared.Loaded.the-variants as Said-of
 use Rattle.tables.specs.Tables.{Tables, Sized, Loads}
 use Rattle.judging.specs.Faults.{setInTable}
-use Rattle.loader.specs.Reads.{Safe, HoldsMarks, Halfway}
-use Rattle.loader.proofs.Arms.{Answers}
+use Rattle.pacing.specs.Reads.{Safe, HoldsMarks}
+use Rattle.loader.specs.Halfway.{Halfway}
+use Rattle.pacing.proofs.Arms.{Answers}
 
 abbrev pub origin : Progress
 origin = record { at = 0; vars = 0; actions = 0; tasks = 0; last = 0; own = 0; above = 0; many = 0; seed = 0 }

@@ -14,8 +14,9 @@ use Rattle.tables.specs.Tables.{ActionTables, tables}
 use Rattle.judging.specs.Faults.{conditionFault}
 use Rattle.entering.specs.declared.Progress.{Progress}
 use Rattle.entering.specs.Steps.{withMany, afterCondition}
-use Rattle.loader.specs.Reads.{Safe, Halfway}
-use Rattle.loader.proofs.Arms.{condition-arm}
+use Rattle.pacing.specs.Reads.{Safe}
+use Rattle.loader.specs.Halfway.{Halfway}
+use Rattle.pacing.proofs.Arms.{condition-arm}
 use Rattle.loader.proofs.Pass.{goes-on}
 
 may-condition : (left : Bool) {last : ℕ} → 2 ≤ last → last ≤ 3 → mayFollow left last 3 ≡ true

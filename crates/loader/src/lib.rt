@@ -1,12 +1,11 @@
 // Reads a study file once and fills the tables that planning and running need.
-mod pace;
-
 ghost use Prim.Native.Nat.{ℕ, _-_, _≤_};
 ghost use mathlib.Core.List.{List};
 ghost use Rattle.tables.specs.Tables.{ActionTables, tables, Sized, Loads};
 ghost use Rattle.entering.specs.Steps.{withMany};
 ghost use Rattle.tables.specs.Rows.{countColumn, seenAll};
-ghost use Rattle.loader.specs.Reads.{Safe, Halfway};
+ghost use Rattle.pacing.specs.Reads.{Safe};
+ghost use Rattle.loader.specs.Halfway.{Halfway};
 use entering::Progress;
 use entering::Step;
 use records::Found;
@@ -105,7 +104,7 @@ pub fn load(
         seed: 0,
     };
     loop {
-        let taken = pace::step(file, p, acts, vars, setters, &mut marks);
+        let taken = pacing::step(file, p, acts, vars, setters, &mut marks);
         match taken {
             Step::On(next) => {
                 p = with_conditions(file, next, acts, vars);

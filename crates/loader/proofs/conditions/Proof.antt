@@ -13,9 +13,10 @@ use Rattle.tables.specs.Tables.{ActionTables, tables}
 use Rattle.tables.specs.Rows.{countColumn}
 use Rattle.judging.proofs.Bounds.{condition-bounds}
 use Rattle.entering.specs.Steps.{withMany}
-use Rattle.loader.specs.Reads.{Safe, Halfway}
-use Rattle.loader.proofs.Arms.{where-it-ends}
-use Rattle.loader.proofs.Kept.{condition-kept}
+use Rattle.pacing.specs.Reads.{Safe}
+use Rattle.loader.specs.Halfway.{Halfway}
+use Rattle.pacing.proofs.Arms.{where-it-ends}
+use Rattle.pacing.proofs.Kept.{condition-kept}
 use Rattle.loader.proofs.Runs.{many-entered, condition-taken}
 use borrow.Author.Needs.{needs}
 use borrow.Author.Needs.{needs}

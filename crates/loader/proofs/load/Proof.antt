@@ -6,7 +6,8 @@ use mathlib.Core.Path.{refl}
 use lib.ListN.{length, replicate}
 use Rattle.tables.specs.Tables.{Sized}
 use Rattle.tables.specs.Rows.{countColumn, seenAll}
-use Rattle.loader.specs.Reads.{Safe, Halfway}
+use Rattle.pacing.specs.Reads.{Safe}
+use Rattle.loader.specs.Halfway.{Halfway}
 use Rattle.loader.proofs.Pass.{begins, goes-on, refuses, ends}
 use borrow.Author.Needs.{needs}
 use borrow.Author.Needs.{needs}

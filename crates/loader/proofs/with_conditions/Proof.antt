@@ -1,7 +1,7 @@
 -- `loader::with_conditions` meets its contract: a run of conditions is read, and their number entered.
 -- Assumes nothing.
 use native.Mathlib.Omega.{arith}
-use Rattle.loader.specs.Reads.{Halfway}
+use Rattle.loader.specs.Halfway.{Halfway}
 use borrow.Author.Needs.{needs}
 use Rattle.loader.proofs.with_conditions.Statement.{statement}
 use Rattle.loader.proofs.with_conditions.Tie as tie

@@ -10,7 +10,7 @@ use Rattle.study.specs.Study.{Action, actionAt, noAction}
 use Rattle.plain.proofs.Lists.{length-more}
 use Rattle.lawful.proofs.Faults.{NoneSets}
 use Rattle.tables.specs.Tables.{ActionTables, Tables, actionTables, Sized, HoldsAction, HoldsActions}
-use Rattle.loader.proofs.Grows.{each-next, set-below}
+use Rattle.pacing.proofs.Grows.{each-next, set-below}
 
 abbrev pub oneAction : ActionTables → (i v x y next : ℕ) → ActionTables
 oneAction t i v x y next =

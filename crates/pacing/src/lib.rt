@@ -7,7 +7,7 @@ ghost use Rattle.study.specs.Reading.{Draft, verdictAt, mayFollow};
 ghost use Rattle.records.specs.Records.{recordAt};
 ghost use Rattle.records.specs.declared.Found.the-variants.{There};
 ghost use Rattle.tables.specs.Rows.{countColumn, seenAll};
-ghost use Rattle.loader.specs.Reads.{Safe, Stands, Further, Meets, notThere, afterEnd, seedOf};
+ghost use Rattle.pacing.specs.Reads.{Safe, Stands, Further, Meets, notThere, afterEnd, seedOf};
 use entering::Progress;
 use entering::Step;
 use judging::order;
@@ -112,7 +112,7 @@ fn take(
 }
 
 // Reads the next record and takes it.
-pub(crate) fn step(
+pub fn step(
     file: &[u8],
     p: Progress,
     acts: &mut [[u8; 6]; 256],

@@ -8,7 +8,7 @@ use lib.Dec.{leb, ltb}
 use lib.ListN.{length, getD}
 use Rattle.plain.specs.Choose.{pick}
 use Rattle.study.specs.Study.{Action, Study}
-use Rattle.study.specs.Reading.{says, refused, Draft, Verdict, settled, onward, lastAction, above, mayFollow, sets, readOn, reading}
+use Rattle.study.specs.Reading.{says, refused, Draft, Verdict, settled, onward, lastAction, above, mayFollow, sets}
 use Rattle.records.specs.declared.Found.{Found}
 use Rattle.records.specs.declared.Found.the-variants.{There, Unknown, Cut, Ended}
 use Rattle.tables.specs.Tables.{Tables, Sized, HoldsCounts, HoldsActions, HoldsTasks, Holds}
@@ -63,14 +63,6 @@ pub record Stands (file : List ℕ) (p : Progress) (t : Tables) (m : List ℕ) (
   pub seed : p .seed ≡ d .study .seed
   pub next-condition : 2 ≤ p .last → p .last ≤ 3 → getD (t .acts .places) (p .actions - 1) 0 + 3 * p .many ≡ p .at
   pub counted : 2 ≤ p .last → p .last ≤ 3 → getD (t .acts .manys) (p .actions - 1) 0 ≡ p .many
-
--- the draft that the tables hold at a place, and how many looks are left from there
-pub record Halfway (file : List ℕ) (t : Tables) (m : List ℕ) (p : Progress) : Type 0 where
-  pub draft : Draft
-  pub looks : ℕ
-  pub enough : length file < looks + p .at
-  pub reads : reading file ≡ readOn looks file (p .at) draft
-  pub stands : Stands file p t m draft
 
 -- a step goes on further down the file, and stays safe
 abbrev pub Further : List ℕ → ℕ → List ℕ → Step → Type 0

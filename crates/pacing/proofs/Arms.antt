@@ -26,10 +26,10 @@ use Rattle.entering.specs.declared.Step.the-variants.{Refused, Done}
 use Rattle.tables.specs.Tables.{Tables, tables, actionTables, HoldsTasks}
 use Rattle.judging.specs.Faults.{variableFault, actionFault, conditionFault, taskFault, seedFault}
 use Rattle.entering.specs.Steps.{unlessFault, stored, storedAction, storedMany, afterVariable, afterAction, afterCondition, afterTask, afterSeed}
-use Rattle.loader.specs.Reads.{Safe, Stands, Further, Meets, seedOf, afterEnd, notThere}
-use Rattle.loader.proofs.Told.{variable-fault-is, action-fault-is, condition-fault-is, task-fault-is, seed-fault-is}
-use Rattle.loader.proofs.Entered.{variable-entered, action-entered, condition-entered, task-entered, seed-entered}
-use Rattle.loader.proofs.Kept.{variable-kept, action-kept, condition-kept, task-kept, seed-kept}
+use Rattle.pacing.specs.Reads.{Safe, Stands, Further, Meets, seedOf, afterEnd, notThere}
+use Rattle.pacing.proofs.Told.{variable-fault-is, action-fault-is, condition-fault-is, task-fault-is, seed-fault-is}
+use Rattle.pacing.proofs.Entered.{variable-entered, action-entered, condition-entered, task-entered, seed-entered}
+use Rattle.pacing.proofs.Kept.{variable-kept, action-kept, condition-kept, task-kept, seed-kept}
 
 -- what a step is to do
 abbrev pub Answers : List ℕ → Progress → Tables → List ℕ → Tables → List ℕ → Step → Type 0

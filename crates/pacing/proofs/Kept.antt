@@ -9,7 +9,7 @@ use Rattle.plain.proofs.Lists.{one-set}
 use Rattle.entering.specs.declared.Progress.{Progress}
 use Rattle.judging.specs.Faults.{variableFault, actionFault, conditionFault}
 use Rattle.entering.specs.Steps.{afterVariable, afterAction, afterCondition, afterTask, afterSeed}
-use Rattle.loader.specs.Reads.{Safe}
+use Rattle.pacing.specs.Reads.{Safe}
 use Rattle.judging.proofs.Bounds.{variable-bounds, action-bounds, condition-bounds}
 
 module _ {file : List ℕ} {p : Progress} {counts : List ℕ} (safe : Safe file p counts) (next : ℕ) (room : next ≤ length file) where

@@ -13,7 +13,7 @@ use Rattle.study.specs.Study.{Condition, Action, actionAt, conditionAt, noActio
 use Rattle.study.specs.Reading.{above, withCondition}
 use Rattle.plain.proofs.Lists.{length-more}
 use Rattle.tables.specs.Tables.{ActionTables, Tables, actionTables, Sized, HoldsConditions, HoldsAction, HoldsActions}
-use Rattle.loader.proofs.Grows.{each-next}
+use Rattle.pacing.proofs.Grows.{each-next}
 
 conditions-more :
     {file : List ℕ} {place many : ℕ} {cs : List Condition} (c : Condition)

@@ -16,7 +16,7 @@ use Rattle.study.specs.Study.{Action}
 use Rattle.study.specs.Reading.{sets}
 use Rattle.study.proofs.Setters.{sets-more}
 use Rattle.judging.specs.Faults.{setInTable}
-use Rattle.loader.specs.Reads.{HoldsMarks}
+use Rattle.pacing.specs.Reads.{HoldsMarks}
 
 pub marks-same : {m : List ℕ} {old new : List Action} → HoldsMarks m old → ((v q : ℕ) → sets new v q ≡ sets old v q) → HoldsMarks m new
 marks-same holds same = record { long = holds .long; tells = λ v q low narrow. holds .tells v q low narrow ∙ sym (same v q) }

@@ -13,14 +13,14 @@ use Rattle.study.specs.Reading.{Draft, fault, with, variable, action, condition
 use Rattle.study.proofs.Setters.{sets-kept}
 use Rattle.plain.proofs.Lists.{length-more}
 use Rattle.lawful.proofs.Faults.{faultless}
-use Rattle.loader.proofs.Grows.{each-entered, table-more, last-entered, last-more, last-set}
-use Rattle.loader.proofs.Actions.{actions-more}
-use Rattle.loader.proofs.OneCondition.{above-more, action-with-condition}
-use Rattle.loader.proofs.Marks.{marks-more, marks-same}
+use Rattle.pacing.proofs.Grows.{each-entered, table-more, last-entered, last-more, last-set}
+use Rattle.pacing.proofs.Actions.{actions-more}
+use Rattle.pacing.proofs.OneCondition.{above-more, action-with-condition}
+use Rattle.pacing.proofs.Marks.{marks-more, marks-same}
 use Rattle.entering.specs.declared.Progress.{Progress}
 use Rattle.tables.specs.Tables.{Tables, tables, actionTables}
 use Rattle.entering.specs.Steps.{afterVariable, afterAction, afterCondition, afterTask, afterSeed}
-use Rattle.loader.specs.Reads.{Stands}
+use Rattle.pacing.specs.Reads.{Stands}
 
 module _ {file : List ℕ} {p : Progress} {t : Tables} {m : List ℕ} {d : Draft} (stands : Stands file p t m d) (next : ℕ) where
   pub variable-entered :

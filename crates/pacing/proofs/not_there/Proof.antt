@@ -1,8 +1,8 @@
--- `loader::pace::not_there` meets its contract: the case of what was found says which refusal is due.
+-- `pacing::not_there` meets its contract: the case of what was found says which refusal is due.
 -- Assumes nothing.
 use borrow.Author.Needs.{needs}
-use Rattle.loader.proofs.pace.not_there.Statement.{statement}
-use Rattle.loader.proofs.pace.not_there.Tie as tie
+use Rattle.pacing.proofs.not_there.Statement.{statement}
+use Rattle.pacing.proofs.not_there.Tie as tie
 
 enum-known-found : tie.Need-enum-known-found
 enum-known-found c = search needs

@@ -1,4 +1,4 @@
--- `loader::pace::take` meets its contract: the kind says which arm of `Arms` answers.
+-- `pacing::take` meets its contract: the kind says which arm of `Arms` answers.
 -- Assumes nothing.
 use mathlib.Core.Path.{_≡_, refl}
 use mathlib.Core.Bool.{true}
@@ -14,10 +14,10 @@ use Rattle.records.proofs.Laws.{there-lies}
 use Rattle.study.specs.Reading.{mayFollow}
 use Rattle.tables.specs.Tables.{Tables}
 use Rattle.tables.specs.Rows.{seenAll}
-use Rattle.loader.proofs.Arms.{body-inside, where-it-ends, action-place, condition-action, variable-arm, action-arm, condition-arm, task-arm, seed-arm, end-arm}
+use Rattle.pacing.proofs.Arms.{body-inside, where-it-ends, action-place, condition-action, variable-arm, action-arm, condition-arm, task-arm, seed-arm, end-arm}
 use borrow.Author.Needs.{needs}
-use Rattle.loader.proofs.pace.take.Statement.{statement}
-use Rattle.loader.proofs.pace.take.Tie as tie
+use Rattle.pacing.proofs.take.Statement.{statement}
+use Rattle.pacing.proofs.take.Tie as tie
 
 abbrev held : tie.Start → Tables
 held s = seenAll (now (s .args .acts)) (now (s .args .vars)) (now (s .args .setters))

@@ -14,7 +14,7 @@ use Rattle.study.specs.Reading.{Draft, fault, variable, action, condition, task
 use Rattle.entering.specs.declared.Progress.{Progress}
 use Rattle.tables.specs.Tables.{Tables, HoldsCounts}
 use Rattle.judging.specs.Faults.{inTable, setInTable, variableFault, actionFault, conditionFault, taskFault, seedFault}
-use Rattle.loader.specs.Reads.{Stands}
+use Rattle.pacing.specs.Reads.{Stands}
 
 -- two that differ only where the first is not picked
 unless-same : (b : Bool) (n : ℕ) {x y : ℕ} → (b ≡ false → x ≡ y) → pick b n x ≡ pick b n y

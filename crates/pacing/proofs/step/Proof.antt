@@ -1,4 +1,4 @@
--- `loader::pace::step` meets its contract: a record that is there and may come is taken, any other is refused.
+-- `pacing::step` meets its contract: a record that is there and may come is taken, any other is refused.
 -- Assumes nothing.
 use mathlib.Core.Path.{_≡_, sym, _∙_}
 use mathlib.Core.List.{List}
@@ -10,10 +10,10 @@ use Rattle.study.proofs.Verdicts.{verdict-not-allowed}
 use Rattle.tables.specs.Tables.{Tables}
 use Rattle.tables.specs.Rows.{seenAll}
 use Rattle.judging.proofs.Tests.{not-taken, not-left}
-use Rattle.loader.proofs.Arms.{allowed-is, not-there-arm}
+use Rattle.pacing.proofs.Arms.{allowed-is, not-there-arm}
 use borrow.Author.Needs.{needs}
-use Rattle.loader.proofs.pace.step.Statement.{statement}
-use Rattle.loader.proofs.pace.step.Tie as tie
+use Rattle.pacing.proofs.step.Statement.{statement}
+use Rattle.pacing.proofs.step.Tie as tie
 
 abbrev held : tie.Start → Tables
 held s = seenAll (now (s .args .acts)) (now (s .args .vars)) (now (s .args .setters))

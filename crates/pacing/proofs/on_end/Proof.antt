@@ -1,8 +1,8 @@
--- `loader::pace::on_end` meets its contract: nothing may follow the end record.
+-- `pacing::on_end` meets its contract: nothing may follow the end record.
 -- Assumes nothing.
 use borrow.Author.Tests.{lt-ltb, le-ltb}
-use Rattle.loader.proofs.pace.on_end.Statement.{statement}
-use Rattle.loader.proofs.pace.on_end.Tie as tie
+use Rattle.pacing.proofs.on_end.Statement.{statement}
+use Rattle.pacing.proofs.on_end.Tie as tie
 
 returns : tie.Need-returns
 returns c = simp (lt-ltb _ _ (c .if1 .taken))
