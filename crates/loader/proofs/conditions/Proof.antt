@@ -19,7 +19,6 @@ use Rattle.pacing.proofs.Arms.{where-it-ends}
 use Rattle.pacing.proofs.Kept.{condition-kept}
 use Rattle.loader.proofs.Runs.{many-entered, condition-taken}
 use borrow.Author.Needs.{needs}
-use borrow.Author.Needs.{needs}
 use Rattle.loader.proofs.conditions.Statement.{statement}
 use Rattle.loader.proofs.conditions.Tie as tie
 

@@ -10,7 +10,6 @@ use Rattle.pacing.specs.Reads.{Safe}
 use Rattle.loader.specs.Halfway.{Halfway}
 use Rattle.loader.proofs.Pass.{begins, goes-on, refuses, ends}
 use borrow.Author.Needs.{needs}
-use borrow.Author.Needs.{needs}
 use Rattle.loader.proofs.load.Statement.{statement}
 use Rattle.loader.proofs.load.Tie as tie
 
