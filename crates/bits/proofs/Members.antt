@@ -1,7 +1,8 @@
--- Sets in words: one bit changed in one word, the least member, sets with none, and sets with the same members.
+-- Sets in words: one bit changed in one word, a number put in or taken out, the least member, sets with none, and sets with the same members.
 -- Assumes nothing.
-use mathlib.Core.Path.{_≡_, refl, sym, ap, _∙_}
-use mathlib.Core.Bool.{Bool, false}
+use mathlib.Core.Path.{_≡_, refl, sym, ap, subst, _∙_}
+use mathlib.Core.Logic.{_⊎_, inl, inr, _≢_}
+use mathlib.Core.Bool.{Bool, true, false, or-true, true≢false}
 use mathlib.Core.List.{List}
 use Prim.Native.Nat.{ℕ, zero, suc, _+_, _*_, _/_, _%_, _^_, _≤_, _<_}
 use native.Mathlib.Decide.{ℕ-discrete, decLt}
@@ -10,7 +11,7 @@ use lib.Dec.{eqb}
 use lib.ListN.{length, getD, set, replicate, List·getD-eq-default}
 use lib.Seq.{getD-set-same, getD-set-other, ext-getD}
 use borrow.Author.Tests.{eq-eqb, ne-eqb}
-use Rattle.bits.specs.Bits.{bit, within, LowestBit, LeastMember}
+use Rattle.bits.specs.Bits.{bit, within, LowestBit, Added, Removed, LeastMember}
 use Rattle.bits.proofs.Words.{bit-zero, same-bits}
 
 -- number 64 q + k is bit k of word q
@@ -42,6 +43,40 @@ changed-member g keeps s i word h w j = go (ℕ-discrete (j / 64) (i / 64))
     go : Dec (j / 64 ≡ i / 64) → bit (getD (set s (i / 64) word) (j / 64) 0) (j % 64) ≡ g (eqb i j) (bit (getD s (j / 64) 0) (j % 64))
     go (yes e) = rw (e, getD-set-same s (i / 64) word 0 h, w (j % 64), same-place i j (sym e))
     go (no n) = rw (getD-set-other s (i / 64) (j / 64) word 0 n, ne-eqb i j (λ e. n (ap (λ (m : ℕ). m / 64) (sym e))), keeps)
+
+-- ---- a number put in, or taken out
+
+-- no test is both
+pub not-both : {b : Bool} → b ≡ true → b ≡ false → ⊥
+not-both e f = true≢false (sym e ∙ f)
+
+module _ {i : ℕ} {before after : List ℕ} (added : Added i before after) where
+  pub added-there : within after i ≡ true
+  added-there = added .members i ∙ rw (eq-eqb i i refl)
+
+  pub added-keeps : (j : ℕ) → within before j ≡ true → within after j ≡ true
+  added-keeps j h = added .members j ∙ rw (h, or-true)
+
+  pub added-only : (j : ℕ) → within after j ≡ true → (within before j ≡ true) ⊎ (i ≡ j)
+  added-only j h = go (ℕ-discrete i j)
+    where
+      go : Dec (i ≡ j) → (within before j ≡ true) ⊎ (i ≡ j)
+      go (yes e) = inr e
+      go (no o) = inl (rw (ne-eqb i j o) at (sym (added .members j) ∙ h))
+
+module _ {i : ℕ} {before after : List ℕ} (removed : Removed i before after) where
+  pub removed-gone : within after i ≡ false
+  removed-gone = removed .members i ∙ rw (eq-eqb i i refl)
+
+  pub removed-keeps : (j : ℕ) → i ≢ j → within before j ≡ true → within after j ≡ true
+  removed-keeps j o h = removed .members j ∙ rw (ne-eqb i j o) h
+
+  pub removed-only : (j : ℕ) → within after j ≡ true → within before j ≡ true
+  removed-only j h = go (ℕ-discrete i j)
+    where
+      go : Dec (i ≡ j) → within before j ≡ true
+      go (yes e) = absurd (not-both h (subst (λ (x : ℕ). within after x ≡ false) e removed-gone))
+      go (no o) = rw (ne-eqb i j o) at (sym (removed .members j) ∙ h)
 
 -- ---- the least member
 
@@ -77,7 +112,7 @@ pub none-beyond : (s : List ℕ) (i : ℕ) → 64 * length s ≤ i → within s 
 unfolding within
 none-beyond s i h = rw (List·getD-eq-default s 0 {n = i / 64} (omega arith)) (bit-zero (i % 64))
 
-zero-words : (n q : ℕ) → getD {A = ℕ} (replicate n 0) q 0 ≡ 0
+pub zero-words : (n q : ℕ) → getD {A = ℕ} (replicate n 0) q 0 ≡ 0
 zero-words zero q = refl
 zero-words (suc n) zero = refl
 zero-words (suc n) (suc q) = zero-words n q

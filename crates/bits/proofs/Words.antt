@@ -1,4 +1,4 @@
--- The bits of one number: found by halving, under or and xor, of a power of two, and the lowest that is set.
+-- The bits of one number: found by halving, under and, or and xor, of a power of two, and the lowest that is set.
 -- Assumes nothing.
 use mathlib.Core.Path.{_≡_, refl, sym, ap, _∙_}
 use mathlib.Core.Bool.{Bool, false, not, _&&_, _||_}
@@ -6,7 +6,7 @@ use Prim.Native.Nat.{ℕ, zero, suc, _*_, _/_, _%_, _^_, _<_}
 use native.Mathlib.Nat.{pow-suc, pow-succ', div-one, one-mul, div-div-eq-div-mul, zero-div, mul-mod-left, mul-div-cancel}
 use native.Mathlib.Omega.{arith}
 use lib.Dec.{eqb, eqb·zero-suc, eqb·suc-zero, eqb·suc-suc}
-use lib.Bits.{bitOr, bitXor, or-shr, xor-shr, or-mod, xor-mod}
+use lib.Bits.{bitAnd, bitOr, bitXor, and-shr, or-shr, xor-shr, and-mod, or-mod, xor-mod}
 use lib.Count.{trailingZeros, under}
 use lib.Pow.{shl-exact}
 use Rattle.bits.specs.Bits.{bit, LowestBit}
@@ -50,7 +50,7 @@ same-bits (suc w) x y h g e =
           (λ k j. sym (bit-of-half x k) ∙ e (suc k) (omega arith) ∙ bit-of-half y k),
     )
 
--- ---- under or and xor
+-- ---- under and, or and xor
 
 -- an operation that goes bit by bit, and what it does to two bits
 module _
@@ -61,6 +61,9 @@ module _
   bit-by-bit : (x y k : ℕ) → bit (f x y) k ≡ g (bit x k) (bit y k)
   unfolding bit
   bit-by-bit x y k = rw (high x y k, low (x / 2 ^ k) (y / 2 ^ k)) (one _ _ (omega arith) (omega arith))
+
+pub bit-common : (x y k : ℕ) → bit (bitAnd x y) k ≡ (bit x k && bit y k)
+bit-common = bit-by-bit bitAnd _&&_ and-shr (λ x y. and-mod x y 1) (both-digits _ refl refl refl refl)
 
 -- the bits of y put into x
 pub bit-put-in : (x y k : ℕ) → bit (bitOr x y) k ≡ (bit y k || bit x k)

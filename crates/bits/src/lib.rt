@@ -34,6 +34,20 @@ pub fn without_bit(x: u64, k: u8) -> u64
     (x | mark) ^ mark
 }
 
+// x with the bits of y set.
+pub fn joined(x: u64, y: u64) -> u64
+    ensures { λ r. ⌜ ((j : ℕ) → bit r j ≡ (bit y j || bit x j)) ⌝ }
+{
+    x | y
+}
+
+// The bits that x and y have in common.
+pub fn common(x: u64, y: u64) -> u64
+    ensures { λ r. ⌜ ((j : ℕ) → bit r j ≡ (bit x j && bit y j)) ⌝ }
+{
+    x & y
+}
+
 // The lowest bit of x that is set.
 pub fn lowest(x: u64) -> u8
     requires { ⌜ 0 < x ⌝ }

@@ -1,15 +1,40 @@
--- A look at a variable's next action: what keeps it in range, and that what it notes is right.
+-- A look at a variable's next action: the rank tells the action and the variable, and what the look notes is right.
 -- Assumes nothing.
-use mathlib.Core.Path.{_≡_, refl, _∙_}
+use mathlib.Core.Path.{_≡_, refl, sym, ap, _∙_}
 use mathlib.Core.List.{List}
-use Prim.Native.Nat.{ℕ, _+_, _-_, _*_, _≤_, _<_}
+use Prim.Native.Nat.{ℕ, _+_, _≤_, _<_}
 use native.Mathlib.Omega.{arith}
-use native.Mathlib.Decide.{ℕ-discrete, decLt}
+use native.Mathlib.Decide.{ℕ-discrete}
 use lib.ListN.{length, getD, set, length-set}
 use lib.Seq.{getD-set-same, getD-set-other}
-use Rattle.keys.specs.Conditions.{Readable, HoldUpTo, FirstOpen}
-use Rattle.keys.specs.Keys.{stepOf}
-use Rattle.choosing.specs.Choosing.{Sound, HeldRight, Noted, Guarded}
+use Rattle.opening.specs.Conditions.{HoldUpTo, FirstOpen}
+use Rattle.opening.specs.Opening.{stepOf}
+use Rattle.choosing.specs.Choosing.{HeldRight, Noted, Guarded}
+use Rattle.choosing.specs.OpenRight.{Free}
+
+-- ---- the rank of a next action
+
+module _ {file vars places manys steps state ranks room : List ℕ} {n : ℕ} {held : List ℕ}
+    (guarded : Guarded file vars places manys steps state ranks room n held) where
+  module _ {wants : List ℕ} {v i : ℕ} (free : Free steps wants state n v i) where
+    pub rank-below : getD ranks i 0 < 256
+    rank-below = guarded .by-rank i (guarded .sound v (free .below) .next i (free .next) .0) .0
+
+    pub rank-tells : getD room (getD ranks i 0) 0 ≡ i
+    rank-tells = guarded .by-rank i (guarded .sound v (free .below) .next i (free .next) .0) .1
+
+    pub action-tells : getD vars i 0 ≡ v
+    action-tells = guarded .sound v (free .below) .own i (free .next)
+
+  -- two next actions of one rank are one
+  module _ {wants wants′ : List ℕ} {v i w j : ℕ} (a : Free steps wants state n v i) (b : Free steps wants′ state n w j) (e : getD ranks i 0 ≡ getD ranks j 0) where
+    pub one-action : i ≡ j
+    one-action = sym (rank-tells a) ∙ ap (λ (x : ℕ). getD room x 0) e ∙ rank-tells b
+
+    pub one-variable : v ≡ w
+    one-variable = sym (action-tells a) ∙ ap (λ (x : ℕ). getD vars x 0) one-action ∙ action-tells b
+
+-- ---- what is noted
 
 pub notes-same : (file places manys steps state held : List ℕ) → Noted file places manys steps state held held
 notes-same file places manys steps state held = record { long = refl; right = λ v h. h }
@@ -19,54 +44,21 @@ pub noted-again :
     → Noted file places manys steps state held held′ → Noted file places manys steps state held′ held″ → Noted file places manys steps state held held″
 noted-again a b = record { long = b .long ∙ a .long; right = λ v h. b .right v (a .right v h) }
 
--- a look is as well guarded after others
-module _ {file places manys steps state : List ℕ} {a n : ℕ} {held : List ℕ} (guarded : Guarded file places manys steps state a n held) {v : ℕ} (b : v < n) where
-  pub guarded-sound : Sound file places manys steps state 256 v
-  guarded-sound =
-      let s = guarded .sound v b in
-      record {
-        there = s .there;
-        narrow = s .narrow;
-        next = λ i e. (omega (arith, s .next i e .0, guarded .few), s .next i e .1);
-      }
+-- what was found to hold is noted
+pub notes-more :
+    {file places manys steps state held : List ℕ} (v i : ℕ) {k : ℕ} → v < 32 → stepOf steps state v ≡ i + 2
+    → FirstOpen file (getD places i 0) (getD manys i 0) state (getD held v 0) k → length held ≡ 32
+    → Noted file places manys steps state held (set held v k)
+notes-more {file} {places} {manys} {steps} {state} {held} v i {k} low next first long =
+    record { long = length-set held v k; right = λ u h j e. go u h j e (ℕ-discrete u v) }
+  where
+    one-next : (j : ℕ) → stepOf steps state v ≡ j + 2 → j ≡ i
+    one-next j e = omega arith
 
-module _ {file places manys steps state : List ℕ} {v : ℕ} (sound : Sound file places manys steps state 256 v) (r : ℕ) (is : r ≡ getD state v 0) where
-  -- the next action, where there is one
-  pub next-is : 2 ≤ getD steps (16 * v + r) 0 → stepOf steps state v ≡ getD steps (16 * v + r) 0 - 2 + 2
-  next-is h = rw (← is) (omega arith)
-
-  pub next-there : 2 ≤ getD steps (16 * v + r) 0 → getD steps (16 * v + r) 0 - 2 < 256
-  next-there h = sound .next _ (next-is h) .0
-
-  pub next-readable :
-      2 ≤ getD steps (16 * v + r) 0
-      → Readable file (getD places (getD steps (16 * v + r) 0 - 2) 0) (getD manys (getD steps (16 * v + r) 0 - 2) 0)
-  next-readable h = sound .next _ (next-is h) .1
-
-  pub step-small : getD steps (16 * v + r) 0 < 258
-  step-small = go (decLt (getD steps (16 * v + r) 0) 2)
-    where
-      go : Dec (getD steps (16 * v + r) 0 < 2) → getD steps (16 * v + r) 0 < 258
-      go (yes h) = omega arith
-      go (no h) = omega (arith, next-there (omega arith))
-
-  module _ (many : 2 ≤ getD steps (16 * v + r) 0) (k from : ℕ)
-      (first : FirstOpen file (getD places (getD steps (16 * v + r) 0 - 2) 0) (getD manys (getD steps (16 * v + r) 0 - 2) 0) state from k) where
-    abbrev next : ℕ
-    next = getD steps (16 * v + r) 0 - 2
-
-    one-next : (i : ℕ) → stepOf steps state v ≡ i + 2 → i ≡ next
-    one-next i e = omega (arith, next-is many)
-
-    -- what was found to hold is noted
-    pub notes-more :
-        (held : List ℕ) → length held ≡ 32 → from ≡ getD held v 0 → Noted file places manys steps state held (set held v k)
-    notes-more held long start = record { long = length-set held v k; right = λ u h i e. go u h i e (ℕ-discrete u v) }
-      where
-        go :
-            (u : ℕ) → HeldRight file places manys steps state held u → (i : ℕ) → stepOf steps state u ≡ i + 2 → Dec (u ≡ v)
-            → (getD (set held v k) u 0 ≤ getD manys i 0) × HoldUpTo file (getD places i 0) state (getD (set held v k) u 0)
-        go u h i e (no o) = rw (getD-set-other held v u k 0 o) (h i e)
-        go u h i e (yes f) =
-            rw (f, getD-set-same held v k 0 (omega (arith, sound .there)), one-next i (rw f at e))
-            (first .most, first .hold (rw start (rw (f, one-next i (rw f at e)) at (h i e .1))))
+    go :
+        (u : ℕ) → HeldRight file places manys steps state held u → (j : ℕ) → stepOf steps state u ≡ j + 2 → Dec (u ≡ v)
+        → (getD (set held v k) u 0 ≤ getD manys j 0) × HoldUpTo file (getD places j 0) state (getD (set held v k) u 0)
+    go u h j e (no o) = rw (getD-set-other held v u k 0 o) (h j e)
+    go u h j e (yes f) =
+        rw (f, getD-set-same held v k 0 (omega arith), one-next j (rw f at e))
+        (first .most, first .hold (rw (f, one-next j (rw f at e)) at (h j e .1)))

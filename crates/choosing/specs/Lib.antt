@@ -1,2 +1,2 @@
 pub mod Choosing
-pub mod Keyed
+pub mod OpenRight

@@ -1,11 +1,10 @@
 // Which ready action is taken next.
 ghost use mathlib.Core.List.{List};
 ghost use Prim.Native.Nat.{ℕ, _≤_};
-ghost use lib.ListN.{length};
-ghost use Rattle.tables.specs.Rows.{placeColumn, manyColumn};
-ghost use Rattle.keys.specs.Conditions.{Readable, FirstOpen};
+ghost use Rattle.tables.specs.Rows.{varColumn, placeColumn, manyColumn};
+ghost use Rattle.opening.specs.Conditions.{Readable, FirstOpen};
 ghost use Rattle.choosing.specs.Choosing.{Noted, Guarded, Chosen};
-ghost use Rattle.choosing.specs.Keyed.{Keyed};
+ghost use Rattle.choosing.specs.OpenRight.{OpenRight};
 
 // The ready action of least rank, or that none is ready.
 pub enum Choice {
@@ -29,48 +28,45 @@ fn count_held(file: &[u8], place: usize, many: u8, state: &[u8; 32], from: u8) -
     k
 }
 
-// The ready action of least rank. A variable whose key is lowest and whose next action is not ready loses its key, and
-// waits for the variable of the condition that fails. The conditions found to hold are not looked at again.
+// The ready action of least rank. A rank that is least and whose action is not ready is taken out, and the action's
+// variable waits for the variable of the condition that fails. The conditions found to hold are not looked at again.
 pub fn best(
     file: &[u8],
     acts: &[[u8; 6]; 256],
-    steps: &[u16; 512],
+    room: &[u8; 512],
     state: &[u8; 32],
     held: &mut [u8; 32],
-    keys: &mut [u16; 32],
-    waits: &mut [u8; 32],
-    awaited: &mut [u8; 32],
+    opened: &mut [u64; 4],
+    waiting: &mut [u64; 32],
 ) -> Choice
-    requires { ⌜ ((ranks : List ℕ) × (wants : List ℕ) × (full : List ℕ) × (n : ℕ)
-        × Guarded (now file) (placeColumn (now acts)) (manyColumn (now acts)) (now steps) (now state) (length ranks) n (now held)
-        × Keyed ranks (now file) (placeColumn (now acts)) (manyColumn (now acts)) (now steps) wants (now state) full (now keys) (now waits) (now awaited) n) ⌝ }
-    ensures { λ r. ⌜ ((ranks wants full : List ℕ) (n : ℕ)
-        → Guarded (now (file .entry)) (placeColumn (now (acts .entry))) (manyColumn (now (acts .entry))) (now (steps .entry)) (now (state .entry))
-        (length ranks) n (now (held .entry))
-        → Keyed ranks (now (file .entry)) (placeColumn (now (acts .entry))) (manyColumn (now (acts .entry))) (now (steps .entry)) wants (now (state .entry)) full
-        (now (keys .entry)) (now (waits .entry)) (now (awaited .entry)) n
-        → Chosen ranks n (now (file .entry)) (placeColumn (now (acts .entry))) (manyColumn (now (acts .entry))) (now (steps .entry)) wants (now (state .entry)) r
-        × Keyed ranks (now (file .entry)) (placeColumn (now (acts .entry))) (manyColumn (now (acts .entry))) (now (steps .entry)) wants (now (state .entry)) full
-        (now (keys .exit)) (now (waits .exit)) (now (awaited .exit)) n) ⌝ }
-    ensures { λ r. ⌜ Noted (now (file .entry)) (placeColumn (now (acts .entry))) (manyColumn (now (acts .entry))) (now (steps .entry)) (now (state .entry))
-        (now (held .entry)) (now (held .exit)) ⌝ }
+    requires { ⌜ ((ranks : List ℕ) × (steps : List ℕ) × (wants : List ℕ) × (n : ℕ)
+        × Guarded (now file) (varColumn (now acts)) (placeColumn (now acts)) (manyColumn (now acts)) steps (now state) ranks (now room) n (now held)
+        × OpenRight ranks (now file) (placeColumn (now acts)) (manyColumn (now acts)) steps wants (now state) (now opened) (now waiting) n) ⌝ }
+    ensures { λ r. ⌜ ((ranks steps wants : List ℕ) (n : ℕ)
+        → Guarded (now (file .entry)) (varColumn (now (acts .entry))) (placeColumn (now (acts .entry))) (manyColumn (now (acts .entry))) steps (now (state .entry))
+        ranks (now (room .entry)) n (now (held .entry))
+        → OpenRight ranks (now (file .entry)) (placeColumn (now (acts .entry))) (manyColumn (now (acts .entry))) steps wants (now (state .entry))
+        (now (opened .entry)) (now (waiting .entry)) n
+        → Chosen ranks n (now (file .entry)) (placeColumn (now (acts .entry))) (manyColumn (now (acts .entry))) steps wants (now (state .entry)) r
+        × OpenRight ranks (now (file .entry)) (placeColumn (now (acts .entry))) (manyColumn (now (acts .entry))) steps wants (now (state .entry))
+        (now (opened .exit)) (now (waiting .exit)) n
+        × Noted (now (file .entry)) (placeColumn (now (acts .entry))) (manyColumn (now (acts .entry))) steps (now (state .entry)) (now (held .entry)) (now (held .exit))) ⌝ }
 {
     loop {
-        let key = keys::least(keys);
-        if key == keys::SHUT {
+        let r = bits::least(opened);
+        if r == bits::NONE {
             return Choice::Nothing;
         }
-        let v = (key % 32) as usize;
-        let i = steps[16 * v + tables::wide(state[v])] as usize - 2;
+        let i = tables::wide(room[r as usize]);
         let a = tables::action_at(acts, i);
+        let v = tables::wide(a.var);
         let k = count_held(file, a.place, a.many, state, held[v]);
         if a.many <= k {
             return Choice::Action(i);
         }
-        let on = file[a.place + 3 * tables::wide(k) + 1];
+        let on = tables::wide(file[a.place + 3 * tables::wide(k) + 1]);
         held[v] = k;
-        keys[v] = keys::SHUT;
-        waits[v] = on;
-        awaited[tables::wide(on)] = 1;
+        waiting[on] = bits::with_bit(waiting[on], a.var);
+        bits::remove(opened, r as u8);
     }
 }

@@ -1,6 +1,8 @@
 pub mod Lists
+pub mod Images
 pub mod Members
 pub mod Grown
+pub mod Renamed
 pub mod First
 pub mod Rings
 pub mod Stuck

@@ -1,15 +1,22 @@
--- Lists with one more at the end, and with one changed: what holds of each.
+-- Lists with one more at the end, and with one changed: what holds of each and of their parts.
 -- Assumes nothing.
 use mathlib.Core.Path.{_≡_, refl}
 use mathlib.Core.Logic.{_≢_}
 use mathlib.Core.List.{List, [], _∷_, _++_}
-use Prim.Native.Nat.{ℕ, zero, suc, _<_}
+use Prim.Native.Nat.{ℕ, zero, suc, _+_, _<_}
+use native.Mathlib.Nat.{zero-add, suc-add}
 use native.Mathlib.Omega.{arith}
-use lib.ListN.{length, getD, set, length-append}
+use lib.ListN.{length, getD, set, drop, length-append}
 
 module _ {A : Type 0} where
   pub length-more : (l : List A) (x : A) → length (l ++ (x ∷ [])) ≡ suc (length l)
   length-more l x = omega (arith, length-append l (x ∷ []))
+
+  -- what is changed behind the first n is changed in the rest
+  pub drop-set : (n k : ℕ) (l : List A) (x : A) → drop n (set l (n + k) x) ≡ set (drop n l) k x
+  drop-set zero k l x = rw (zero-add k)
+  drop-set (suc n) k [] x = refl
+  drop-set (suc n) k (y ∷ l) x = rw (suc-add n k) (drop-set n k l x)
 
   -- what holds of each and of the new one, by index
   pub each-more :

@@ -25,7 +25,7 @@ pub fn plan(file: &[u8], ranks: &[u8], plan: &mut [u8]) -> Answer
     let Tested::Fine = tested else {
         return stages::answers::unranked(tested, ranks.len());
     };
-    stages::plan_loaded(file, ranks, n, actions, &acts, &vars, &setters, plan)
+    stages::plan_loaded(file, ranks, n, actions, &acts, &vars, &mut setters, plan)
 }
 
 // The same with the list that the file's own seed draws.
@@ -44,5 +44,5 @@ pub fn plan_seeded(file: &[u8], plan: &mut [u8]) -> Answer
     else {
         return tables::refused(found);
     };
-    stages::plan_drawn(file, seed, n, actions, &acts, &vars, &setters, plan)
+    stages::plan_drawn(file, seed, n, actions, &acts, &vars, &mut setters, plan)
 }

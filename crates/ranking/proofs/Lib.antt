@@ -1,2 +1,3 @@
 pub mod Marks
 pub mod Fine
+pub mod Named

@@ -29,3 +29,15 @@ rising (suc n) = rising n ++ (n ∷ [])
 -- entries i and j exchanged
 abbrev pub exchanged : List ℕ → ℕ → ℕ → List ℕ
 exchanged l i j = set (set l i (getD l j 0)) j (getD l i 0)
+
+-- no number stands in the list twice
+abbrev pub Apart : List ℕ → Type 0
+Apart l = (i j : ℕ) → i < length l → j < length l → getD l i 0 ≡ getD l j 0 → i ≡ j
+
+-- the table has each place of the list under the number that stands there
+abbrev pub Inverse : List ℕ → List ℕ → Type 0
+Inverse l table = (i : ℕ) → i < length l → (getD l i 0 < 256) × (getD table (getD l i 0) 0 ≡ i)
+
+-- the list turned round
+pub record Turned (l table : List ℕ) : Type 0 where
+  pub inverse : Inverse l table

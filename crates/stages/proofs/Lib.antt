@@ -1,3 +1,4 @@
 pub mod Drawing
 pub mod Outcomes
 pub mod Stages
+pub mod Few

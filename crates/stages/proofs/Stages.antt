@@ -5,9 +5,7 @@ use mathlib.Core.Logic.{inl, inr}
 use mathlib.Core.List.{List, [], _∷_}
 use Prim.Native.Nat.{ℕ, zero, suc, _+_, _*_, _≤_, _<_}
 use native.Mathlib.Omega.{arith}
-use lib.ListN.{length, getD, set, replicate}
-use lib.Seq.{getD-set-same, getD-set-other}
-use borrow.Author.Count.{below-more}
+use lib.ListN.{length, getD, take, drop, replicate}
 use Rattle.ranking.specs.Ranking.{tested}
 use Rattle.ranking.specs.declared.Tested.{Tested}
 use Rattle.ranking.specs.declared.Tested.the-variants.{Fine, Length, Entry}
@@ -15,18 +13,21 @@ use Rattle.ranking.proofs.Tested.{the-type}
 use types.Run.{OneOf}
 use denote.Enum.Declared.{tagOf}
 use Rattle.ranking.proofs.Fine.{fine-is-rank-list}
+use Rattle.ranks.specs.Ranks.{RankList, Apart}
+use Rattle.ranks.proofs.Placed.{rank-list-apart}
 use Rattle.study.specs.Study.{Study}
 use Rattle.tables.specs.Rows.{Begins}
 use Rattle.tables.specs.Tables.{ActionTables}
-use Rattle.planning.specs.Refusals.{notRanked}
-use Rattle.planning.specs.Planning.{Plans, wrong-length, wrong-entry}
+use Rattle.planning.specs.Refusals.{notRanked, offWalk}
+use Rattle.planning.specs.Planning.{Plans, LowestOff, wrong-length, wrong-entry, off-walk}
 use Rattle.walks.specs.Walks.{Met, startOf, goalOf}
-use Rattle.tracing.specs.Facts.{Tells, Moves}
+use Rattle.tracing.specs.Facts.{Tells, Moves, Wishes}
 use Rattle.tracing.specs.Steps.{EmptyRow, Rowed, Members}
 use Rattle.tracing.proofs.Ranges.{few-tasks}
 use Rattle.wanting.specs.Wanting.{Counts}
-use Rattle.taking.specs.Taking.{Prepared}
-use Rattle.stages.specs.Whole.{Known, Given, Walking}
+use Rattle.taking.specs.Taking.{Prepared, TakenGreedily}
+use Rattle.stages.specs.Whole.{Known, Given, Walking, Taken}
+use Rattle.stages.proofs.Outcomes.{rowed-walks, few-in-all}
 
 -- a table of zeros holds 0 wherever one looks
 pub all-zeros : (n j : ℕ) → _≡_ {A = ℕ} (getD (replicate n 0) j 0) 0
@@ -88,57 +89,83 @@ module _
     pub few-variables : n ≤ 32
     few-variables = omega (arith, given .variables, few-tasks (given .lawful))
 
+    -- there is a rank for each action
+    pub as-many-ranks : length ranks ≡ a
+    as-many-ranks = fine-is-rank-list (given .ranked) .an-entry-for-each
+
     pub given-walking :
-        (total : ℕ) (steps state : List ℕ) → Rowed t n steps → (list : List ℕ) → Members t list → length list ≡ total
-        → Begins n starts state
-        → Walking file ranks n a total (acts .vars) (acts .pres) (acts .posts) (acts .places) (acts .manys) steps state t
-    given-walking total steps state rowed list members counted begins =
+        (total : ℕ) (steps : List ℕ) → Rowed t n steps → (list : List ℕ) → Members t list → length list ≡ total
+        → Walking file ranks n total acts starts steps t
+    given-walking total steps rowed list members counted =
         record {
-          wishes =
-              record {
-                lawful = given .lawful;
-                actions = given .actions .count;
-                tells-var = λ i h. given .actions .action i h .var;
-                tells-pre = λ i h. given .actions .action i h .pre;
-                tells-conditions = λ i h. given .actions .action i h .conditions;
-              };
-          deeds =
-              record {
-                lawful = given .lawful;
-                actions = given .actions .count;
-                tells-var = λ i h. given .actions .action i h .var;
-                tells-post = λ i h. given .actions .action i h .post;
-                tells-conditions = λ i h. given .actions .action i h .conditions;
-              };
+          lawful = given .lawful;
           variables = given .variables;
-          ranked = given .ranked;
+          actions = rw as-many-ranks (given .actions);
+          tells-starts = given-starts;
+          ranked = given-ranked;
           rowed = rowed;
           list = list;
           members = members;
           counted = counted;
-          at-start = λ v h. begins .start v h ∙ given .tasks .start v h;
         }
 
 module _
-    {file ranks : List ℕ} {n a total : ℕ} {vars pres posts places manys steps state : List ℕ} {t : Study}
-    (walking : Walking file ranks n a total vars pres posts places manys steps state t)
+    {file ranks : List ℕ} {n total : ℕ} {acts : ActionTables} {starts steps : List ℕ} {t : Study}
+    (walking : Walking file ranks n total acts starts steps t)
   where
-    -- there is a rank for each action
-    pub as-many-ranks : length ranks ≡ a
-    as-many-ranks = fine-is-rank-list (walking .ranked) .an-entry-for-each
+    pub walking-ranks : RankList (length ranks) ranks
+    walking-ranks = rw (← walking .actions .count) at (fine-is-rank-list (walking .ranked))
 
-    pub walking-ranked : tested ranks (length (t .actions)) ≡ Fine
-    walking-ranked = rw (← walking .wishes .actions) (walking .ranked)
+    pub ranks-apart : Apart ranks
+    ranks-apart = rank-list-apart walking-ranks
+
+    pub few-walking : n ≤ 32
+    few-walking = omega (arith, walking .variables, few-tasks (walking .lawful))
+
+    pub all-few : total ≤ 256
+    all-few = omega (arith, few-in-all (walking .lawful) (walking .members), walking .counted)
 
     pub walking-rowed : Rowed t (length (t .tasks)) steps
     walking-rowed = rw (← walking .variables) (walking .rowed)
 
+    pub walking-wishes : Wishes file (length ranks) (acts .vars) (acts .pres) (acts .places) (acts .manys) t
+    walking-wishes = record {
+      lawful = walking .lawful;
+      actions = walking .actions .count;
+      tells-var = λ i h. walking .actions .action i h .var;
+      tells-pre = λ i h. walking .actions .action i h .pre;
+      tells-conditions = λ i h. walking .actions .action i h .conditions;
+    }
+
+    pub walking-off : {i u : ℕ} {before : List ℕ} → LowestOff t i u → Plans t ranks before (offWalk i u) before
+    walking-off off = off-walk (walking .ranked) (rowed-walks (walking .variables) (walking .rowed)) off
+
+    pub walking-taken : Met t → (k : ℕ) (room : List ℕ) → TakenGreedily t ranks (take k (drop 256 room)) → Taken t ranks total k room
+    walking-taken met k room greedy = record {
+      lawful = walking .lawful;
+      ranked = walking .ranked;
+      walks = rowed-walks (walking .variables) (walking .rowed);
+      met = met;
+      list = walking .list;
+      members = walking .members;
+      counted = walking .counted;
+      greedy = greedy;
+    }
+
+    -- many actions: the conditions are counted, and each variable is at its start
     pub walking-prepared :
-        (wants : List ℕ) → Met t → ((list : List ℕ) → Members t list → Counts t list wants)
-        → Prepared file n (length ranks) total vars posts places manys steps wants state t
-    walking-prepared wants met counts =
+        (wants state : List ℕ) → Met t → ((list : List ℕ) → Members t list → Counts t list wants) → Begins n starts state
+        → Prepared file n (length ranks) total (acts .vars) (acts .posts) (acts .places) (acts .manys) steps wants state t
+    walking-prepared wants state met counts begins =
         record {
-          deeds = rw as-many-ranks (walking .deeds);
+          deeds =
+              record {
+                lawful = walking .lawful;
+                actions = walking .actions .count;
+                tells-var = λ i h. walking .actions .action i h .var;
+                tells-post = λ i h. walking .actions .action i h .post;
+                tells-conditions = λ i h. walking .actions .action i h .conditions;
+              };
           variables = walking .variables;
           rowed = walking .rowed;
           met = met;
@@ -146,5 +173,5 @@ module _
           members = walking .members;
           counted = walking .counted;
           wanted = counts (walking .list) (walking .members);
-          at-start = walking .at-start;
+          at-start = λ v h. begins .start v h ∙ walking .tells-starts v h;
         }

@@ -7,6 +7,8 @@ use Rattle.tracing.specs.declared.Walked.{Walked}
 use Rattle.tracing.specs.declared.Walked.the-variants as Walk
 use Rattle.wanting.specs.declared.Met.{Met}
 use Rattle.wanting.specs.declared.Met.the-variants as Meet
+use Rattle.ordering.specs.declared.Found.{Found}
+use Rattle.ordering.specs.declared.Found.the-variants as Find
 use Rattle.choosing.specs.declared.Choice.{Choice}
 use Rattle.choosing.specs.declared.Choice.the-variants as Choose
 use Rattle.planning.specs.Refusals.{withoutWalk, offWalk, withRing}
@@ -18,6 +20,10 @@ notWalked (Walk.NoWalk v) = withoutWalk v
 abbrev pub notMet : Met → Answer
 notMet Meet.All = done 0 0
 notMet (Meet.Off action var) = offWalk action var
+
+abbrev pub notOrdered : Found → Answer
+notOrdered (Find.Members members) = done 0 0
+notOrdered (Find.Off action var) = offWalk action var
 
 -- the choice after so many were taken
 abbrev pub notChosen : ℕ → Choice → Answer

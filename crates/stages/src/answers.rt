@@ -2,9 +2,10 @@
 ghost use mathlib.Core.Path.{_≡_};
 ghost use Rattle.answer.specs.Answers.{three};
 ghost use Rattle.planning.specs.Refusals.{notRanked};
-ghost use Rattle.stages.specs.Answers.{notWalked, notMet, notChosen};
+ghost use Rattle.stages.specs.Answers.{notWalked, notMet, notOrdered, notChosen};
 use answer::Answer;
 use choosing::Choice;
+use ordering::Found;
 use ranking::Tested;
 use tracing::Walked;
 use wanting::Met;
@@ -47,6 +48,16 @@ pub(crate) fn unmet(met: Met) -> Answer
     match met {
         Met::All => numbers(0, 0, 0),
         Met::Off { action, var } => numbers(11, action, tables::wide(var)),
+    }
+}
+
+// The same, as ordering finds it.
+pub(crate) fn unordered(found: Found) -> Answer
+    ensures { λ r. ⌜ r ≡ notOrdered found ⌝ }
+{
+    match found {
+        Found::Members(_) => numbers(0, 0, 0),
+        Found::Off { action, var } => numbers(11, action, tables::wide(var)),
     }
 }
 

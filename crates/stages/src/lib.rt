@@ -3,89 +3,129 @@ pub mod answers;
 
 ghost use mathlib.Core.Path.{_≡_};
 ghost use mathlib.Core.List.{_++_};
-ghost use Prim.Native.Nat.{_≤_};
+ghost use Prim.Native.Nat.{ℕ, _≤_};
+ghost use mathlib.Core.List.{List};
 ghost use lib.ListN.{length, take, drop};
 ghost use Rattle.study.specs.Study.{Study};
-ghost use Rattle.ranking.specs.Ranking.{tested as Tested·of};
-ghost use Rattle.ranking.specs.declared.Tested.the-variants.{Fine};
 ghost use Rattle.planning.specs.Planning.{Plans};
 ghost use Rattle.draw.specs.Draw.{drawn};
-ghost use Rattle.stages.specs.Whole.{KnownIn, GivenIn, WalkingIn, PreparedIn};
+ghost use Rattle.stages.specs.Whole.{KnownIn, GivenIn, WalkingIn, Taken};
 use answer::Answer;
 use choosing::Choice;
+use ordering::Found;
 use tracing::Walked;
 use wanting::Met;
 
-// The first n entries take the place of the plan's first.
-fn copy_out(out: &[u8; 256], n: usize, plan: &mut [u8])
-    requires { ⌜ (n ≤ 256) × (n ≤ length (now plan)) × (length (now out) ≡ 256) ⌝ }
-    ensures { λ _. ⌜ now (plan .exit) ≡ take n (now (out .entry)) ++ drop n (now (plan .entry)) ⌝ }
+// Up to so many actions a set of ranks is one word.
+const FEW: usize = 64;
+
+// The first n of the actions taken become the plan's first.
+fn copy_out(room: &[u8; 512], n: usize, plan: &mut [u8])
+    requires { ⌜ (n ≤ 256) × (n ≤ length (now plan)) × (length (now room) ≡ 512) ⌝ }
+    ensures { λ _. ⌜ now (plan .exit) ≡ take n (drop 256 (now (room .entry))) ++ drop n (now (plan .entry)) ⌝ }
 {
     let mut k = 0;
     while k < n {
-        plan[k] = out[k];
+        plan[k] = room[256 + k];
         k += 1;
     }
 }
 
-// Every variable has a walk and every condition is on one.
-fn plan_met(
-    file: &[u8],
-    ranks: &[u8],
-    n: usize,
-    total: usize,
-    acts: &[[u8; 6]; 256],
-    steps: &[u16; 512],
-    wants: &mut [u16; 512],
-    state: &mut [u8; 32],
-    plan: &mut [u8],
-) -> Answer
-    requires { ⌜ (length (now wants) ≡ 512) × (length (now state) ≡ 32)
-        × ((t : Study) × PreparedIn (now file) (now ranks) n total (now acts) (now steps) (now wants) (now state) t) ⌝ }
-    ensures { λ r. ⌜ ((t : Study)
-        → PreparedIn (now (file .entry)) (now (ranks .entry)) n total (now (acts .entry)) (now (steps .entry)) (now (wants .entry)) (now (state .entry)) t
-        → Tested·of (now (ranks .entry)) (length (t .actions)) ≡ Fine
-        → Plans t (now (ranks .entry)) (now (plan .entry)) r (now (plan .exit))) ⌝ }
+// So many of the walk actions were taken.
+fn finish(taken: usize, total: usize, room: &[u8; 512], plan: &mut [u8]) -> Answer
+    requires { ⌜ (taken ≤ total) × (total ≤ 256) × (length (now room) ≡ 512) ⌝ }
+    ensures { λ r. ⌜ ((t : Study) (ranks : List ℕ)
+        → Taken t ranks total taken (now (room .entry))
+        → Plans t ranks (now (plan .entry)) r (now (plan .exit))) ⌝ }
 {
-    let mut out = [0u8; 256];
-    let taken = taking::take_all(file, ranks, n, total, acts, steps, wants, state, &mut out);
     if taken < total {
         return answers::unchosen(Choice::Nothing, taken);
     }
     if plan.len() < total {
         return answers::numbers(13, total, 0);
     }
-    copy_out(&out, total, plan);
+    copy_out(room, total, plan);
     answers::numbers(0, total, 0)
 }
 
-// Every variable has a walk.
-fn plan_walked(
+// Every variable has a walk, and there are many actions: a variable waits for another.
+fn plan_many(
     file: &[u8],
     ranks: &[u8],
     n: usize,
-    actions: usize,
     total: usize,
     acts: &[[u8; 6]; 256],
+    vars: &[[u8; 3]; 32],
     steps: &[u16; 512],
-    state: &mut [u8; 32],
+    room: &mut [u8; 512],
     plan: &mut [u8],
 ) -> Answer
-    requires { ⌜ (length (now state) ≡ 32)
-        × ((t : Study) × WalkingIn (now file) (now ranks) n actions total (now acts) (now steps) (now state) t) ⌝ }
+    requires { ⌜ (length (now room) ≡ 512)
+        × ((t : Study) × WalkingIn (now file) (now ranks) n total (now acts) (now vars) (now room) (now steps) t) ⌝ }
     ensures { λ r. ⌜ ((t : Study)
-        → WalkingIn (now (file .entry)) (now (ranks .entry)) n actions total (now (acts .entry)) (now (steps .entry)) (now (state .entry)) t
+        → WalkingIn (now (file .entry)) (now (ranks .entry)) n total (now (acts .entry)) (now (vars .entry)) (now (room .entry)) (now (steps .entry)) t
         → Plans t (now (ranks .entry)) (now (plan .entry)) r (now (plan .exit))) ⌝ }
 {
     let mut wants = [0u16; 512];
-    let met = wanting::want_all(file, actions, acts, steps, &mut wants);
+    let met = wanting::want_all(file, ranks.len(), acts, steps, &mut wants);
     let Met::All = met else {
         return answers::unmet(met);
     };
-    plan_met(file, ranks, n, total, acts, steps, &mut wants, state, plan)
+    let mut state = [0u8; 32];
+    tables::set_out(n, vars, &mut state);
+    ranking::name_all(ranks, room);
+    let taken = taking::take_all(
+        file,
+        ranks,
+        n,
+        total,
+        acts,
+        steps,
+        &mut wants,
+        &mut state,
+        room,
+    );
+    finish(taken, total, room, plan)
 }
 
-// What was loaded, with a rank list of it.
+// .. and there are few: their ranks are bits of one word.
+fn plan_few(
+    file: &[u8],
+    ranks: &[u8],
+    total: usize,
+    acts: &[[u8; 6]; 256],
+    vars: &[[u8; 3]; 32],
+    steps: &[u16; 512],
+    room: &mut [u8; 512],
+    plan: &mut [u8],
+) -> Answer
+    requires { ⌜ (length (now room) ≡ 512) × (length (now ranks) ≤ 64)
+        × ((t : Study) × (n : ℕ) × WalkingIn (now file) (now ranks) n total (now acts) (now vars) (now room) (now steps) t) ⌝ }
+    ensures { λ r. ⌜ ((t : Study) (n : ℕ)
+        → WalkingIn (now (file .entry)) (now (ranks .entry)) n total (now (acts .entry)) (now (vars .entry)) (now (room .entry)) (now (steps .entry)) t
+        → Plans t (now (ranks .entry)) (now (plan .entry)) r (now (plan .exit))) ⌝ }
+{
+    let mut before = [0u64; 64];
+    let found = ordering::order_all(
+        file,
+        ranks,
+        ranks.len(),
+        acts,
+        vars,
+        room,
+        steps,
+        &mut before,
+    );
+    let Found::Members(members) = found else {
+        return answers::unordered(found);
+    };
+    ranking::name_all(ranks, room);
+    let taken = hanging::take(members, total, &before, room);
+    finish(taken, total, room, plan)
+}
+
+// What was loaded, with a rank list of it. The table of setters is used up: its room takes the actions by rank, and those
+// that are taken.
 pub fn plan_loaded(
     file: &[u8],
     ranks: &[u8],
@@ -93,10 +133,11 @@ pub fn plan_loaded(
     actions: usize,
     acts: &[[u8; 6]; 256],
     vars: &[[u8; 3]; 32],
-    setters: &[u8; 512],
+    setters: &mut [u8; 512],
     plan: &mut [u8],
 ) -> Answer
-    requires { ⌜ ((t : Study) × GivenIn (now file) (now ranks) n actions (now acts) (now vars) (now setters) t) ⌝ }
+    requires { ⌜ (length (now setters) ≡ 512)
+        × ((t : Study) × GivenIn (now file) (now ranks) n actions (now acts) (now vars) (now setters) t) ⌝ }
     ensures { λ r. ⌜ ((t : Study)
         → GivenIn (now (file .entry)) (now (ranks .entry)) n actions (now (acts .entry)) (now (vars .entry)) (now (setters .entry)) t
         → Plans t (now (ranks .entry)) (now (plan .entry)) r (now (plan .exit))) ⌝ }
@@ -106,19 +147,10 @@ pub fn plan_loaded(
     let Walked::All(total) = walked else {
         return answers::unwalked(walked);
     };
-    let mut state = [0u8; 32];
-    tables::set_out(n, vars, &mut state);
-    plan_walked(
-        file,
-        ranks,
-        n,
-        actions,
-        total,
-        acts,
-        &steps,
-        &mut state,
-        plan,
-    )
+    if FEW < actions {
+        return plan_many(file, ranks, n, total, acts, vars, &steps, setters, plan);
+    }
+    plan_few(file, ranks, total, acts, vars, &steps, setters, plan)
 }
 
 // The same with the list that the seed draws.
@@ -129,10 +161,10 @@ pub fn plan_drawn(
     actions: usize,
     acts: &[[u8; 6]; 256],
     vars: &[[u8; 3]; 32],
-    setters: &[u8; 512],
+    setters: &mut [u8; 512],
     plan: &mut [u8],
 ) -> Answer
-    requires { ⌜ ((t : Study) × KnownIn (now file) n actions seed (now acts) (now vars) (now setters) t) ⌝ }
+    requires { ⌜ (length (now setters) ≡ 512) × ((t : Study) × KnownIn (now file) n actions seed (now acts) (now vars) (now setters) t) ⌝ }
     ensures { λ r. ⌜ ((t : Study)
         → KnownIn (now (file .entry)) n actions seed (now (acts .entry)) (now (vars .entry)) (now (setters .entry)) t
         → Plans t (drawn seed actions) (now (plan .entry)) r (now (plan .exit))) ⌝ }

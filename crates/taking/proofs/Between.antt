@@ -20,7 +20,7 @@ use Rattle.walks.proofs.Along.{reached, reached-left, on-walk}
 use Rattle.walks.proofs.Straight.{Stands, Kept}
 use Rattle.tracing.specs.Steps.{Rowed}
 use Rattle.wanting.specs.Wanting.{wanted, StandAt}
-use Rattle.keys.specs.Keys.{stepOf}
+use Rattle.opening.specs.Opening.{stepOf}
 use Rattle.choosing.specs.Choosing.{HeldRight}
 use Rattle.taking.specs.Taking.{Prepared}
 use Rattle.tracing.proofs.StepTable.{step-ahead, step-at-end}

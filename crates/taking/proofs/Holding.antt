@@ -10,7 +10,7 @@ use Rattle.walks.specs.Walks.{Wants, conditionsOf}
 use Rattle.walks.proofs.Wanted.{wanted-each}
 use Rattle.tracing.specs.Facts.{Deeds}
 use Rattle.wanting.specs.Wanting.{StandAt}
-use Rattle.keys.specs.Conditions.{Readable, HoldUpTo}
+use Rattle.opening.specs.Conditions.{Readable, HoldUpTo}
 use Rattle.wanting.proofs.Conditions.{wants-at, stands-here}
 
 pub deeds-stand :

@@ -1,7 +1,7 @@
 pub mod Alike
 pub mod Between
 pub mod Holding
-pub mod KeyRounds
+pub mod OpenRounds
 pub mod Lowered
 pub mod OneMore
 pub mod StillWanted

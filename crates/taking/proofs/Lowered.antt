@@ -16,7 +16,7 @@ use Rattle.study.specs.Study.{Condition, Study, conditionAt}
 use Rattle.walks.specs.Walks.{Wants, conditionsOf}
 use Rattle.walks.proofs.Wanted.{wanted-each}
 use Rattle.wanting.specs.Wanting.{wants, StandAt}
-use Rattle.keys.specs.Conditions.{entryAt, lowered, loweredAll, Lowerable}
+use Rattle.opening.specs.Conditions.{entryAt, lowered, loweredAll, Lowerable}
 use Rattle.wanting.proofs.Counting.{wants-told}
 use Rattle.wanting.proofs.Conditions.{Here, stands-here, conditions-rise}
 

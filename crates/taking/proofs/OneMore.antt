@@ -18,8 +18,8 @@ use Rattle.walks.proofs.Leads.{on-walk-usable}
 use Rattle.walks.proofs.Wanted.{wants-has}
 use Rattle.walks.proofs.Straight.{Kept, kept-next}
 use Rattle.wanting.specs.Wanting.{wanted}
-use Rattle.keys.specs.Conditions.{HoldsAt, HoldUpTo, Lowerable, loweredAll}
-use Rattle.keys.specs.Keys.{stepOf}
+use Rattle.opening.specs.Conditions.{HoldsAt, HoldUpTo, Lowerable, loweredAll}
+use Rattle.opening.specs.Opening.{stepOf}
 use Rattle.choosing.specs.Choosing.{HeldRight, Noted}
 use Rattle.taking.specs.Taking.{Prepared}
 use Rattle.taking.proofs.Holding.{wants-read}

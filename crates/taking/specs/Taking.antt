@@ -3,7 +3,7 @@
 use Prim.Native.Nat.{ℕ, _≤_}
 use mathlib.Core.Path.{_≡_}
 use mathlib.Core.List.{List}
-use lib.ListN.{length, getD, take}
+use lib.ListN.{length, getD, take, drop}
 use Rattle.study.specs.Study.{Study}
 use Rattle.orders.specs.Orders.{None, Greedy}
 use Rattle.walks.specs.Walks.{OnAWalk, ComesBefore, Met, startOf}
@@ -32,8 +32,8 @@ PreparedRows file n a total acts steps wants state t =
 abbrev pub TakenGreedily : Study → List ℕ → List ℕ → Type 0
 TakenGreedily t ranks list = Greedy (OnAWalk t) (ComesBefore t) (λ i. getD ranks i 0) None list
 
--- r actions, at most all, stand at the start of `out`, and of every study that was prepared they were taken so
+-- r actions, at most all, stand in the room from 256 on, and of every study that was prepared they were taken so
 abbrev pub TakesAll : List ℕ → ℕ → List ℕ → ℕ → List Row → List ℕ → List ℕ → List ℕ → ℕ → List ℕ → Type 0
-TakesAll file n ranks total acts steps wants state r out =
-    ((r ≤ total) × (length out ≡ 256))
-    × ((t : Study) → PreparedRows file n (length ranks) total acts steps wants state t → TakenGreedily t ranks (take r out))
+TakesAll file n ranks total acts steps wants state r room =
+    ((r ≤ total) × (length room ≡ 512))
+    × ((t : Study) → PreparedRows file n (length ranks) total acts steps wants state t → TakenGreedily t ranks (take r (drop 256 room)))

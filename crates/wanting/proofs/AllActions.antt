@@ -1,13 +1,13 @@
 -- One pass over the actions: each that is on a walk wants only what is on walks, or is the lowest that does not.
 -- Assumes nothing.
-use mathlib.Core.Path.{_≡_, _∙_}
+use mathlib.Core.Path.{_≡_}
 use mathlib.Core.Logic.{_≢_}
 use mathlib.Core.List.{List}
 use Prim.Native.Nat.{ℕ, _+_, _*_, _≤_, _<_}
 use native.Mathlib.Omega.{arith}
 use lib.ListN.{length, getD}
 use Rattle.study.specs.Study.{Study}
-use Rattle.walks.specs.Walks.{OnAWalk, varOf, preOf, conditionsOf}
+use Rattle.walks.specs.Walks.{OnAWalk, conditionsOf}
 use Rattle.tracing.specs.Facts.{Wishes}
 use Rattle.tracing.specs.Steps.{Rowed}
 use Rattle.wanting.specs.Wanting.{StandAt, FirstOff, WantsEach, WantsAll}
@@ -17,6 +17,7 @@ use Rattle.wanting.specs.declared.Met.the-variants as Met-as
 use Rattle.tracing.proofs.StepTable.{step-leaves, on-walk-step}
 use Rattle.wanting.proofs.Conditions.{wishes-stand}
 use Rattle.wanting.proofs.OnWalks.{steps-on-walks, first-off-lowest}
+use Rattle.wanting.proofs.Told.{Told, told}
 use Rattle.wanting.proofs.Passed.{Passed, none-passed, one-skipped, one-passed, all-passed}
 
 -- where the pass stands; no entry grows past 255 for each action
@@ -53,28 +54,11 @@ module _
 
   -- the variable and pre of action i, as the tables have them
   module _ {x y : ℕ} (is-var : x ≡ getD vars i 0) (is-pre : y ≡ getD pres i 0) where
-    record Told (t : Study) : Type 0 where
-      var : x ≡ varOf t i
-      pre : y ≡ preOf t i
-      there : x < length (t .tasks)
-      narrow : y < 16
-
-    told : {t : Study} → Wishes file a vars pres places manys t → Told t
-    told {t} w =
-        let has = w .lawful .action i (omega (arith, w .actions)) .has-pre in
-        let var : x ≡ varOf t i = is-var ∙ w .tells-var i h in
-        let pre : y ≡ preOf t i = is-pre ∙ w .tells-pre i h in
-        record {
-          var = var;
-          pre = pre;
-          there = omega (arith, has .there, w .lawful .a-task-each);
-          narrow = omega (arith, has .small, w .lawful .few-values _ (has .there));
-        }
+    told-here : {t : Study} → Wishes file a vars pres places manys t → Told t i x y
+    told-here w = told w i h is-var is-pre
 
     pub in-table : 16 * x + y < 512
-    in-table =
-        let (t, w) = under .some in
-        omega (arith, told w .there, told w .narrow, w .lawful .a-task-each, w .lawful .few-variables)
+    in-table = let (t, w) = under .some in told-here w .inside
 
     pub skips : getD steps (16 * x + y) 0 ≢ i + 2 → Underway file a vars pres places manys steps table (i + 1)
     skips other = record {
@@ -84,12 +68,12 @@ module _
       low = λ j. omega (arith, under .low j);
       so-far =
           λ t w rowed. one-skipped (under .so-far t w rowed)
-          (λ on. other (rw (told w .var, told w .pre) (on-walk-step rowed (w .lawful) on)));
+          (λ on. other (rw (told-here w .var, told-here w .pre) (on-walk-step rowed (w .lawful) on)));
     }
 
     module _ (is : getD steps (16 * x + y) 0 ≡ i + 2) where
       is-on-walk : {t : Study} → Wishes file a vars pres places manys t → Rowed t (length (t .tasks)) steps → OnAWalk t i
-      is-on-walk w rowed = step-leaves rowed x y i (told w .there) (told w .narrow) is .0
+      is-on-walk w rowed = step-leaves rowed x y i (told-here w .there) (told-here w .narrow) is .0
 
       pub goes-on :
           {table′ : List ℕ}

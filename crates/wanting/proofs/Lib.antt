@@ -4,3 +4,4 @@ pub mod Counting
 pub mod OnWalks
 pub mod OneAction
 pub mod Passed
+pub mod Told

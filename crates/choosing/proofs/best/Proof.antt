@@ -1,24 +1,23 @@
--- `choosing::best` meets its contract: each turn looks at who has the lowest key; if its next action is not ready, the key is lost.
+-- `choosing::best` meets its contract: each turn looks at the action of the least open rank; if it is not ready, the rank is taken out.
 -- Assumes nothing.
 use mathlib.Core.Path.{refl}
 use native.Mathlib.Omega.{arith}
 use borrow.Author.Needs.{needs}
 use Prim.Native.Nat.{_+_, _*_, _^_, _<_}
-use native.Mathlib.Nat.{mod-lt}
-use Rattle.tables.specs.Rows.{placeColumn, manyColumn}
-use Rattle.keys.specs.Conditions.{Readable}
-use Rattle.keys.specs.Keys.{shut}
-use Rattle.keys.proofs.Keys.{slack}
-use Rattle.choosing.proofs.Waiting.{Picking, picking-starts, picks-none, picked-narrow, picked-steps, picked-small, picked-there, picked-readable, picked-held, picks-ready, picks-again, picked-falls}
+use Rattle.tables.specs.Rows.{varColumn, placeColumn, manyColumn}
+use Rattle.bits.specs.Bits.{within}
+use Rattle.bits.proofs.Counted.{counted, counted-falls}
+use Rattle.opening.specs.Conditions.{Readable}
+use Rattle.choosing.proofs.Picking.{Picking, picking-starts, picked-long, picks-none, picked-low, picked-readable, picked-held, picks-ready, picks-again}
 use Rattle.choosing.proofs.best.Statement.{statement}
 use Rattle.choosing.proofs.best.Tie as tie
 
 abbrev Inv-loop : tie.InvT-loop
-Inv-loop file acts steps state held₀ keys₀ waits₀ awaited₀ held keys waits awaited =
-    Picking file (placeColumn acts) (manyColumn acts) steps state held₀ keys₀ waits₀ awaited₀ held keys waits awaited
+Inv-loop file acts room state held₀ opened₀ waiting₀ held opened waiting =
+    Picking file (varColumn acts) (placeColumn acts) (manyColumn acts) state room held₀ opened₀ waiting₀ held opened waiting
 
 abbrev μ-loop : tie.MeasureT-loop
-μ-loop file acts steps state held₀ keys₀ waits₀ awaited₀ held keys waits awaited = slack keys
+μ-loop file acts room state held₀ opened₀ waiting₀ held opened waiting = counted (within opened) 256
 
 loop-holds : tie.Need-loop-holds Inv-loop μ-loop
 loop-holds c = picking-starts (c .before .pre)
@@ -27,160 +26,153 @@ least-requires : tie.Need-least-requires Inv-loop μ-loop
 least-requires c κs = search needs
 
 returns : tie.Need-returns Inv-loop μ-loop
-returns c =
-    let l = c .before .before .before .loop .inv in
-    (picks-none l (c .before .least .ensures) (omega (arith, c .if1 .taken)), l .noted)
+returns c = picks-none (c .before .before .before .loop .inv) (c .before .least .ensures) (omega (arith, c .if1 .taken))
 
--- there is a key, and its variable is one of 32
-some : (c : tie.Else1 Inv-loop μ-loop) → c .before .least .result < shut
-some c = omega (arith, c .if1 .left, c .before .least .ok)
+-- there is an open rank
+some : (c : tie.Else1 Inv-loop μ-loop) → c .before .least .result < 256
+some c = omega (arith, c .if1 .left, c .before .least .ensures .most)
+
+cast-wide : tie.Need-cast-wide Inv-loop μ-loop
+cast-wide c = omega (arith, some c)
 
 element-copy-out-wide : tie.Need-element-copy-out-wide Inv-loop μ-loop
-element-copy-out-wide c = mod-lt (c .before .least .result) {m = 32} (omega arith)
-
-cast-v : tie.Need-cast-v Inv-loop μ-loop
-cast-v c = omega (arith, element-copy-out-wide c)
-
-mul-i : tie.Need-mul-i Inv-loop μ-loop
-mul-i c = omega (arith, element-copy-out-wide c)
+element-copy-out-wide c = omega (arith, some c)
 
 wide-requires : tie.Need-wide-requires Inv-loop μ-loop
 wide-requires c κs = search needs
 
-add-i : tie.Need-add-i Inv-loop μ-loop
-add-i c = omega (arith, element-copy-out-wide (c .before .before), c .wide .ensures .1)
-
-mul-i-2 : tie.Need-mul-i-2 Inv-loop μ-loop
-mul-i-2 c = omega (arith, element-copy-out-wide (c .before .before), c .wide .ensures .1)
-
-element-copy-out-i : tie.Need-element-copy-out-i Inv-loop μ-loop
-element-copy-out-i c =
-    let e = c .before .before in
-    omega (arith, element-copy-out-wide e, picked-narrow (e .before .before .before .loop .inv) (e .before .least .ensures) (some e) _ (c .wide .ensures .0))
-
-cast-i : tie.Need-cast-i Inv-loop μ-loop
-cast-i c =
-    let w = c .before in
-    let e = w .before .before in
-    omega (arith, picked-small (e .before .before .before .loop .inv) (e .before .least .ensures) (some e) _ (w .wide .ensures .0))
-
-sub-i : tie.Need-sub-i Inv-loop μ-loop
-sub-i c =
-    let w = c .before in
-    let e = w .before .before in
-    picked-steps (e .before .before .before .loop .inv) (e .before .least .ensures) (some e) _ (w .wide .ensures .0)
-
 action-at-requires : tie.Need-action-at-requires Inv-loop μ-loop
-action-at-requires c κs =
+action-at-requires c κs = c .wide .ensures .1
+
+wide-requires-2 : tie.Need-wide-requires-2 Inv-loop μ-loop
+wide-requires-2 c κs = search needs
+
+-- its action's variable is one of 32
+low : (c : tie.After-action-at Inv-loop μ-loop) → c .action-at .result .var < 32
+low c =
     let w = c .before in
     let e = w .before .before in
-    picked-there (e .before .before .before .loop .inv) (e .before .least .ensures) (some e) _ (w .wide .ensures .0)
+    rw (c .action-at .ensures .var, w .wide .ensures .0) (picked-low (e .before .before .before .loop .inv) (e .before .least .ensures) (some e))
 
--- the conditions of the action that is looked at can be read
+-- its action's conditions can be read
 readable : (c : tie.After-action-at Inv-loop μ-loop)
-    → Readable (c .before .before .before .before .before .before .before .before .before .args .file .now) (c .action-at .result .place)
+    → Readable (c .before .before .before .before .before .before .before .before .args .file .now) (c .action-at .result .place)
     (c .action-at .result .many)
 readable c =
-    let w = c .before .before in
+    let w = c .before in
     let e = w .before .before in
-    rw (c .action-at .ensures .place, c .action-at .ensures .many)
-    (picked-readable (e .before .before .before .loop .inv) (e .before .least .ensures) (some e) _ (w .wide .ensures .0))
+    rw (c .action-at .ensures .place, c .action-at .ensures .many, w .wide .ensures .0)
+    (picked-readable (e .before .before .before .loop .inv) (e .before .least .ensures) (some e))
 
 -- .. and a place among them fits
 fits : (c : tie.After-action-at Inv-loop μ-loop) → c .action-at .result .place + 3 * c .action-at .result .many < 2 ^ 64
-fits c =
-    omega (arith, readable c .room, c .before .before .before .before .before .before .before .before .before .good .0)
+fits c = omega (arith, readable c .room, c .before .before .before .before .before .before .before .before .good .0)
 
 element-copy-out-count-held : tie.Need-element-copy-out-count-held Inv-loop μ-loop
-element-copy-out-count-held c = element-copy-out-wide (c .before .before .before .before)
+element-copy-out-count-held c = rw (c .wide2 .ensures .0) (low (c .before))
 
 count-held-requires : tie.Need-count-held-requires Inv-loop μ-loop
 count-held-requires c κs =
-    let a = c .before in
-    let w = a .before .before in
+    let y = c .before in
+    let a = y .before in
+    let w = a .before in
     let e = w .before .before in (
       readable a,
-      rw (a .action-at .ensures .many)
-          (picked-held (e .before .before .before .loop .inv) (e .before .least .ensures) (some e) _ (w .wide .ensures .0)),
+      rw (y .wide2 .ensures .0, a .action-at .ensures .many, a .action-at .ensures .var, w .wide .ensures .0)
+          (picked-held (e .before .before .before .loop .inv) (e .before .least .ensures) (some e)),
     )
 
 returns-2 : tie.Need-returns-2 Inv-loop μ-loop
 returns-2 c =
     let h = c .before .before in
-    let a = h .before .before in
-    let w = a .before .before in
+    let y = h .before .before in
+    let a = y .before in
+    let w = a .before in
     let e = w .before .before in
-    let i = e .before .before .before .loop .inv in
-    let o = a .action-at .ensures in (
-      picks-ready i (e .before .least .ensures) (some e) _ (w .wide .ensures .0) _ (rw (o .place, o .many) at (h .count-held .ensures))
-          (rw (o .many) at (c .if2 .taken)),
-      i .noted,
-    )
-
-wide-requires-2 : tie.Need-wide-requires-2 Inv-loop μ-loop
-wide-requires-2 c κs = search needs
-
-mul-on : tie.Need-mul-on Inv-loop μ-loop
-mul-on c = omega (arith, c .wide2 .ensures .1)
-
-add-on : tie.Need-add-on Inv-loop μ-loop
-add-on c =
-    let w = c .before in
-    omega (arith, fits (w .before .before .before .before .before), w .wide2 .ensures .0, w .before .if2 .left)
-
-add-on-2 : tie.Need-add-on-2 Inv-loop μ-loop
-add-on-2 c =
-    let w = c .before in
-    omega (arith, fits (w .before .before .before .before .before), w .wide2 .ensures .0, w .before .if2 .left)
-
-shared-slice-read-on : tie.Need-shared-slice-read-on Inv-loop μ-loop
-shared-slice-read-on c =
-    let w = c .before .before in
-    omega (arith, readable (w .before .before .before .before .before) .room, w .wide2 .ensures .0, w .before .if2 .left)
-
-element-write-held : tie.Need-element-write-held Inv-loop μ-loop
-element-write-held c = element-copy-out-count-held (c .before .before .before .before .before .before .before)
-
-mul-keys : tie.Need-mul-keys Inv-loop μ-loop
-mul-keys c = omega (arith, element-write-held c)
-
-element-write-keys : tie.Need-element-write-keys Inv-loop μ-loop
-element-write-keys c = element-write-held c
-
-element-write-waits : tie.Need-element-write-waits Inv-loop μ-loop
-element-write-waits c = element-write-held c
+    let o = a .action-at .ensures in
+    rw (w .wide .ensures .0)
+    (picks-ready (e .before .before .before .loop .inv) (e .before .least .ensures) (some e)
+    (rw (o .place, o .many, y .wide2 .ensures .0, o .var, w .wide .ensures .0) at (h .count-held .ensures))
+    (rw (o .many, w .wide .ensures .0) at (c .if2 .taken)))
 
 wide-requires-3 : tie.Need-wide-requires-3 Inv-loop μ-loop
 wide-requires-3 c κs = search needs
 
-element-write-awaited : tie.Need-element-write-awaited Inv-loop μ-loop
-element-write-awaited c =
+mul-wide : tie.Need-mul-wide Inv-loop μ-loop
+mul-wide c = omega (arith, c .wide3 .ensures .1)
+
+add-wide : tie.Need-add-wide Inv-loop μ-loop
+add-wide c =
+    let w = c .before in
+    omega (arith, fits (w .before .before .before .before .before .before), w .wide3 .ensures .0, w .before .if2 .left)
+
+add-wide-2 : tie.Need-add-wide-2 Inv-loop μ-loop
+add-wide-2 c =
+    let w = c .before in
+    omega (arith, fits (w .before .before .before .before .before .before), w .wide3 .ensures .0, w .before .if2 .left)
+
+shared-slice-read-wide : tie.Need-shared-slice-read-wide Inv-loop μ-loop
+shared-slice-read-wide c =
+    let w = c .before .before in
+    omega (arith, readable (w .before .before .before .before .before .before) .room, w .wide3 .ensures .0, w .before .if2 .left)
+
+wide-requires-4 : tie.Need-wide-requires-4 Inv-loop μ-loop
+wide-requires-4 c κs = search needs
+
+element-write-held : tie.Need-element-write-held Inv-loop μ-loop
+element-write-held c = element-copy-out-count-held (c .before .before .before .before .before .before .before .before)
+
+mul-with-bit : tie.Need-mul-with-bit Inv-loop μ-loop
+mul-with-bit c = omega (arith, c .wide4 .ensures .1)
+
+-- the variable that the failing condition is on is one of 32
+element-copy-out-with-bit : tie.Need-element-copy-out-with-bit Inv-loop μ-loop
+element-copy-out-with-bit c =
     let x = c .before .before .before in
-    let a = x .before .before .before .before .before in
-    rw (c .wide3 .ensures .0, x .wide2 .ensures .0) (readable a .var _ (x .before .if2 .left))
+    let a = x .before .before .before .before .before .before in
+    rw (c .wide4 .ensures .0, x .wide3 .ensures .0) (readable a .var _ (x .before .if2 .left))
+
+with-bit-requires : tie.Need-with-bit-requires Inv-loop μ-loop
+with-bit-requires c κs = omega (arith, low (c .before .before .before .before .before .before .before .before .before .before))
+
+mul-waiting : tie.Need-mul-waiting Inv-loop μ-loop
+mul-waiting c = omega (arith, c .before .before .wide4 .ensures .1)
+
+element-write-waiting : tie.Need-element-write-waiting Inv-loop μ-loop
+element-write-waiting c = element-copy-out-with-bit (c .before .before)
+
+cast-remove : tie.Need-cast-remove Inv-loop μ-loop
+cast-remove c =
+    let a = c .before .before .before .before .before .before .before .before .before .before .before .before in
+    omega (arith, some (a .before .before .before))
+
+remove-requires : tie.Need-remove-requires Inv-loop μ-loop
+remove-requires c κs =
+    let a = c .before .before .before .before .before .before .before .before .before .before .before .before in
+    picked-long (a .before .before .before .before .before .before .loop .inv)
 
 loop-less : tie.Need-loop-less Inv-loop μ-loop
 loop-less c =
-    let x = c .before .before .before in
-    let h = x .before .before .before in
-    let a = h .before .before in
-    let w = a .before .before in
-    let e = w .before .before in
-    let o = a .action-at .ensures in
-    picked-falls (e .before .before .before .loop .inv) (e .before .least .ensures) (some e) _ (w .wide .ensures .0) _
-    (rw (o .place, o .many) at (h .count-held .ensures))
+    let a = c .before .before .before .before .before .before .before .before .before .before .before .before .before in
+    let e = a .before .before .before in
+    counted-falls _ _ _ (e .before .least .ensures .there (some e)) (c .remove .ensures .members) 256 (some e)
 
 loop-again : tie.Need-loop-again Inv-loop μ-loop
 loop-again c =
-    let x = c .before .before .before in
+    let b = c .before .before in
+    let z = b .before .before in
+    let x = z .before .before .before in
     let h = x .before .before .before in
-    let a = h .before .before in
-    let w = a .before .before in
+    let y = h .before .before in
+    let a = y .before in
+    let w = a .before in
     let e = w .before .before in
     let o = a .action-at .ensures in
-    rw (c .wide3 .ensures .0)
-    (picks-again (e .before .before .before .loop .inv) (e .before .least .ensures) (some e) _ (w .wide .ensures .0) _
-    (rw (o .place, o .many) at (h .count-held .ensures)) _ (rw (x .wide2 .ensures .0, o .place) refl) (rw (o .many) at (x .before .if2 .left)))
+    rw (y .wide2 .ensures .0, o .var, w .wide .ensures .0)
+    (picks-again (e .before .before .before .loop .inv) (e .before .least .ensures) (some e)
+    (rw (o .place, o .many, y .wide2 .ensures .0, o .var, w .wide .ensures .0) at (h .count-held .ensures))
+    _ (rw (z .wide4 .ensures .0, x .wide3 .ensures .0, o .place, w .wide .ensures .0) refl) (rw (o .many, w .wide .ensures .0) at (x .before .if2 .left))
+    (c .remove .ensures) _ (rw (o .var, w .wide .ensures .0) at (b .with-bit .ensures)))
 
 pub best-spec : {M : Type 1} → statement M
 best-spec =
@@ -191,29 +183,27 @@ best-spec =
     loop-holds
     least-requires
     returns
-    cast-v
-    mul-i
+    cast-wide
     element-copy-out-wide
     wide-requires
-    add-i
-    mul-i-2
-    element-copy-out-i
-    cast-i
-    sub-i
     action-at-requires
+    wide-requires-2
     element-copy-out-count-held
     count-held-requires
     returns-2
-    wide-requires-2
-    mul-on
-    add-on
-    add-on-2
-    shared-slice-read-on
-    element-write-held
-    mul-keys
-    element-write-keys
-    element-write-waits
     wide-requires-3
-    element-write-awaited
+    mul-wide
+    add-wide
+    add-wide-2
+    shared-slice-read-wide
+    wide-requires-4
+    element-write-held
+    mul-with-bit
+    element-copy-out-with-bit
+    with-bit-requires
+    mul-waiting
+    element-write-waiting
+    cast-remove
+    remove-requires
     loop-less
     loop-again)

@@ -4,7 +4,7 @@ use Prim.Native.Nat.{_-_, _≤_}
 use native.Mathlib.Omega.{arith}
 use borrow.Author.Count.{below-more}
 use borrow.Author.Needs.{needs}
-use Rattle.keys.specs.Conditions.{HoldUpTo}
+use Rattle.opening.specs.Conditions.{HoldUpTo}
 use Rattle.choosing.proofs.count_held.Statement.{statement}
 use Rattle.choosing.proofs.count_held.Tie as tie
 

@@ -50,7 +50,7 @@ plan-loaded-requires c κs =
     let e = r .before .before in
     let f = e .before .before in
     let (t, said, holds) = rw (f .found .given .1) at (f .before .before .load .ensures fresh-sized) in
-    (t, known-given _ (loaded-known said holds) (sym (e .test .ensures) ∙ r .enum-told2 .given .1))
+    (holds .sized .setters, (t, known-given _ (loaded-known said holds) (sym (e .test .ensures) ∙ r .enum-told2 .given .1)))
 
 same-length : tie.Need-same-length
 same-length c = search needs

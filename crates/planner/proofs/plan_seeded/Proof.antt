@@ -30,7 +30,7 @@ plan-drawn-requires : tie.Need-plan-drawn-requires
 plan-drawn-requires c κs =
     let f = c .before .before .before .before .before in
     let (t, said, holds) = rw (f .found .given .1) at (f .before .before .load .ensures fresh-sized) in
-    (t, loaded-known said holds)
+    (holds .sized .setters, (t, loaded-known said holds))
 
 same-length : tie.Need-same-length
 same-length c = search needs

@@ -4,20 +4,24 @@ use mathlib.Core.Path.{_≡_, refl, _∙_}
 use mathlib.Core.List.{_++_}
 use Prim.Native.Nat.{_-_, _≤_}
 use native.Mathlib.Omega.{arith}
-use lib.ListN.{length, take, drop, length-set}
+use lib.ListN.{length, take, drop, length-set, length-drop}
+use lib.Seq.{getD-drop}
 use borrow.Author.Needs.{needs}
 use Rattle.plain.proofs.Copies.{copied-one-more}
 use Rattle.stages.proofs.copy_out.Statement.{statement}
 use Rattle.stages.proofs.copy_out.Tie as tie
 
 abbrev Inv-loop : tie.InvT-loop
-Inv-loop out n plan₀ k₀ plan k = (k ≤ n) × ((plan ≡ take k out ++ drop k plan₀) × (length plan ≡ length plan₀))
+Inv-loop room n plan₀ k₀ plan k = (k ≤ n) × ((plan ≡ take k (drop 256 room) ++ drop k plan₀) × (length plan ≡ length plan₀))
 
 abbrev μ-loop : tie.MeasureT-loop
-μ-loop out n plan₀ k₀ plan k = n - k
+μ-loop room n plan₀ k₀ plan k = n - k
 
 loop-holds : tie.Need-loop-holds Inv-loop μ-loop
 loop-holds c = (omega arith, (refl, refl))
+
+add-plan : tie.Need-add-plan Inv-loop μ-loop
+add-plan c = omega arith
 
 element-copy-out-plan : tie.Need-element-copy-out-plan Inv-loop μ-loop
 element-copy-out-plan c = omega arith
@@ -36,7 +40,9 @@ loop-again c =
     let l = c .before .before in (
       omega arith,
       (
-        rw (l .loop .inv .1 .0) (copied-one-more (l .before .args .out .now) (l .before .args .plan .now) (l .loop .k) (omega arith) (omega arith)),
+        rw (l .loop .inv .1 .0, ← getD-drop 256 (l .before .args .room .now) (l .loop .k) 0)
+            (copied-one-more (drop 256 (l .before .args .room .now)) (l .before .args .plan .now) (l .loop .k)
+            (omega (arith, length-drop 256 (l .before .args .room .now))) (omega arith)),
         length-set (l .loop .plan) _ _ ∙ l .loop .inv .1 .1,
       ),
     )
@@ -57,6 +63,7 @@ copy-out-spec =
     Inv-loop
     μ-loop
     loop-holds
+    add-plan
     element-copy-out-plan
     slice-write-plan
     add-k

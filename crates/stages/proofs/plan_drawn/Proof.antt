@@ -21,15 +21,15 @@ array-share-prefix-ranks c = search needs
 slice-aggregate-plan-loaded : tie.Need-slice-aggregate-plan-loaded
 slice-aggregate-plan-loaded c =
     let s = c .before .before .before .before .before .before in
-    let (t, known) = s .pre in
+    let (t, known) = s .pre .1 in
     sym (ap length (drawn-in-front known _ (c .before .before .draw .ensures .1)) ∙ drawn-is-rank-list (s .args .seed) (s .args .actions) .an-entry-for-each)
 
 plan-loaded-requires : tie.Need-plan-loaded-requires
 plan-loaded-requires c κs =
-    let d = c .before .before .before in
+    let d = c .before .before .before .before in
     let s = d .before .before .before .before in
-    let (t, known) = s .pre in
-    (t, known-given _ known (rw (drawn-in-front known _ (d .draw .ensures .1)) (drawn-fine (s .args .seed) (s .args .actions))))
+    let (t, known) = s .pre .1 in
+    (s .pre .0, (t, known-given _ known (rw (drawn-in-front known _ (d .draw .ensures .1)) (drawn-fine (s .args .seed) (s .args .actions)))))
 
 same-length : tie.Need-same-length
 same-length c = search needs
@@ -37,7 +37,7 @@ same-length c = search needs
 returns : tie.Need-returns
 returns c t known =
     let p = c .before .before in
-    let d = p .before .before .before .before in
+    let d = p .before .before .before .before .before in
     let s = d .before .before .before .before in
     let front = drawn-in-front known _ (d .draw .ensures .1) in
     rw (← front) (p .plan-loaded .ensures t (known-given _ known (rw front (drawn-fine (s .args .seed) (s .args .actions)))))

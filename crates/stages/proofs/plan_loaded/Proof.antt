@@ -1,16 +1,17 @@
--- `stages::plan_loaded` meets its contract: a variable with no walk is refusal 10, else planning goes on from the start.
+-- `stages::plan_loaded` meets its contract: a variable with no walk is refusal 10, else planning goes on by how many actions there are.
 -- Assumes nothing.
 use mathlib.Core.Path.{refl, ap, _∙_}
-use borrow.Author.Needs.{needs}
+use native.Mathlib.Omega.{arith}
 use Rattle.planning.specs.Planning.{no-walk}
 use Rattle.stages.specs.Answers.{notWalked}
-use Rattle.stages.proofs.Stages.{given-moves, given-starts, given-goals, given-ranked, given-traced, given-walking, few-variables}
+use Rattle.stages.proofs.Stages.{given-moves, given-starts, given-goals, given-ranked, given-traced, given-walking, as-many-ranks}
+use borrow.Author.Needs.{needs}
 use Rattle.stages.proofs.plan_loaded.Statement.{statement}
 use Rattle.stages.proofs.plan_loaded.Tie as tie
 
 walk-all-requires : tie.Need-walk-all-requires
 walk-all-requires c κs =
-    let (t, given) = c .before .before .before .before .pre in
+    let (t, given) = c .before .before .before .before .before .pre .1 in
     (refl, (t, given-moves given, given .variables, given-starts given, given-goals given))
 
 enum-known-walked : tie.Need-enum-known-walked
@@ -28,17 +29,14 @@ returns c t given =
     rw (c .unwalked .ensures ∙ ap notWalked e)
     (no-walk (given-ranked given) (rw e at (given-traced given (c .before .before .before .walk-all .ensures .1 t))))
 
-set-out-requires : tie.Need-set-out-requires
-set-out-requires c κs = (few-variables (c .before .before .before .before .before .before .before .before .before .pre .1), refl)
-
-plan-walked-requires : tie.Need-plan-walked-requires
-plan-walked-requires c κs =
-    let o = c .before .before .before in
-    let w = o .before .before .before in
+plan-many-requires : tie.Need-plan-many-requires
+plan-many-requires c κs =
+    let w = c .before .before .before .before .before in
     let a = w .before .before in
-    let (t, given) = a .before .before .before .before .before .pre in
+    let s = a .before .before .before .before .before .before in
+    let (t, given) = s .pre .1 in
     let (rowed, (list, (members, counted))) = rw (w .walked .given .1) at (given-traced given (a .walk-all .ensures .1 t)) in
-    (o .set-out .ensures .long, (t, given-walking given _ _ _ rowed list members counted (o .set-out .ensures)))
+    (s .pre .0, (t, given-walking given _ _ rowed list members counted))
 
 same-length : tie.Need-same-length
 same-length c = search needs
@@ -46,10 +44,28 @@ same-length c = search needs
 returns-2 : tie.Need-returns-2
 returns-2 c t given =
     let p = c .before .before in
-    let o = p .before .before .before .before in
-    let w = o .before .before .before in
+    let w = p .before .before .before .before .before .before in
     let (rowed, (list, (members, counted))) = rw (w .walked .given .1) at (given-traced given (w .before .before .walk-all .ensures .1 t)) in
-    p .plan-walked .ensures t (given-walking given _ _ _ rowed list members counted (o .set-out .ensures))
+    p .plan-many .ensures t (given-walking given _ _ rowed list members counted)
+
+plan-few-requires : tie.Need-plan-few-requires
+plan-few-requires c κs =
+    let w = c .before .before .before .before .before in
+    let a = w .before .before in
+    let s = a .before .before .before .before .before .before in
+    let (t, given) = s .pre .1 in
+    let (rowed, (list, (members, counted))) = rw (w .walked .given .1) at (given-traced given (a .walk-all .ensures .1 t)) in
+    (s .pre .0, omega (arith, as-many-ranks given), (t, _, given-walking given _ _ rowed list members counted))
+
+same-length-2 : tie.Need-same-length-2
+same-length-2 c = search needs
+
+returns-3 : tie.Need-returns-3
+returns-3 c t given =
+    let p = c .before .before in
+    let w = p .before .before .before .before .before .before in
+    let (rowed, (list, (members, counted))) = rw (w .walked .given .1) at (given-traced given (w .before .before .walk-all .ensures .1 t)) in
+    p .plan-few .ensures t _ (given-walking given _ _ rowed list members counted)
 
 pub plan-loaded-spec : {M : Type 1} → statement M
 plan-loaded-spec =
@@ -60,7 +76,9 @@ plan-loaded-spec =
     enum-told
     unwalked-requires
     returns
-    set-out-requires
-    plan-walked-requires
+    plan-many-requires
     same-length
-    returns-2)
+    returns-2
+    plan-few-requires
+    same-length-2
+    returns-3)

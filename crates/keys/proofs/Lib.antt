@@ -1,4 +1,0 @@
-pub mod Freed
-pub mod KeyTables
-pub mod Keys
-pub mod Lowering

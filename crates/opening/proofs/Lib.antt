@@ -1,0 +1,4 @@
+pub mod Freeing
+pub mod Joining
+pub mod Lowering
+pub mod Waking
