@@ -8,16 +8,15 @@ use Prim.Native.Nat.{ℕ, _≤_, _<_}
 use native.Mathlib.Decide.{ℕ-discrete, decLt}
 use native.Mathlib.Omega.{arith}
 use lib.Dec.{eqb}
-use lib.ListN.{length, getD, replicate}
+use lib.ListN.{length, getD}
 use Rattle.bits.specs.Bits.{bit, LowestBit}
 use Rattle.bits.proofs.Words.{bit-zero}
-use Rattle.bits.proofs.Members.{zero-words}
 use Rattle.bits.proofs.Changed.{out-stays, out-only}
 use Rattle.orders.specs.Orders.{In, None, Ready, Greedy, Counted}
 use Rattle.orders.proofs.Lists.{in-decided, in-append-left, in-append-right, in-append-cases, distinct-fills}
 use Rattle.orders.proofs.Members.{takes-distinct, takes-members}
 use Rattle.orders.proofs.Grown.{GreedySoFar, NoneReady, Least, greedy-one-more, greedy-ended, greedy-so-far-takes}
-use Rattle.hanging.specs.Hanging.{InWord, DirectlyBefore, Free, Settled, Hangs}
+use Rattle.hanging.specs.Hanging.{InWord, DirectlyBefore, Free, Settled, Hangs, NoneHung}
 
 -- `list` has those that are taken
 pub record Going (members : ℕ) (before : List ℕ) (left ready : ℕ) (hung list : List ℕ) : Type 0 where
@@ -34,16 +33,16 @@ none-in-zero : (y : ℕ) → InWord 0 y → ⊥
 none-in-zero y h = false≢true (sym (bit-zero y) ∙ h)
 
 pub going-begins :
-    (members : ℕ) (before : List ℕ) {ready : ℕ} {hung : List ℕ} → Hangs (InWord members) before members 0 (replicate 64 0) ready hung
+    (members : ℕ) (before : List ℕ) {ready : ℕ} {hung₀ hung : List ℕ} → NoneHung hung₀ → Hangs (InWord members) before members 0 hung₀ ready hung
     → Going members before members ready hung []
-going-begins members before {ready} {hung} hangs = record {
+going-begins members before {ready} {hung = hung} none hangs = record {
   greedy = tt;
   left-member = λ y h. h;
   left-free = λ y h k. k;
   left-all = λ y h f. h;
   ready-left = λ y h. from-ready y h .0;
   ready-free = λ y h. from-ready y h .1;
-  hung-left = λ x y l h. elim (hangs .hung-only x y h) [ inl e ↦ absurd (none-in-zero y (rw (zero-words 64 x) at e)) | inr f ↦ f ];
+  hung-left = λ x y l h. elim (hangs .hung-only x y h) [ inl e ↦ absurd (none x y e) | inr f ↦ f ];
   settled = hangs .settled;
 }
   where

@@ -9,6 +9,13 @@ use lib.ListN.{getD, take, drop}
 use Rattle.bits.specs.Bits.{bit}
 use Rattle.orders.specs.Orders.{None, Greedy}
 
+-- one table of 128 words holds for each number those that come directly before it, and behind them those that hang on it
+abbrev pub beforeIn : List ℕ → List ℕ
+beforeIn words = take 64 words
+
+abbrev pub hungIn : List ℕ → List ℕ
+hungIn words = drop 64 words
+
 -- y is in the word
 abbrev pub InWord : ℕ → ℕ → Type 0
 InWord x y = bit x y ≡ true
@@ -33,6 +40,10 @@ pub record Hangs (some : ℕ → Type 0) (before : List ℕ) (left ready : ℕ) 
   pub hung-stays : (x y : ℕ) → InWord (getD hung x 0) y → InWord (getD hung′ x 0) y
   pub hung-only : (x y : ℕ) → InWord (getD hung′ x 0) y → InWord (getD hung x 0) y ⊎ (some y × DirectlyBefore before x y)
   pub settled : (y : ℕ) → some y → Settled before left ready′ hung′ y
+
+-- nothing hangs
+abbrev pub NoneHung : List ℕ → Type 0
+NoneHung hung = (x y : ℕ) → InWord (getD hung x 0) y → ⊥
 
 -- that number alone
 abbrev pub Only : ℕ → ℕ → Type 0

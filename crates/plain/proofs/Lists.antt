@@ -1,12 +1,12 @@
 -- Lists with one more at the end, and with one changed: what holds of each and of their parts.
 -- Assumes nothing.
-use mathlib.Core.Path.{_≡_, refl}
+use mathlib.Core.Path.{_≡_, refl, ap}
 use mathlib.Core.Logic.{_≢_}
 use mathlib.Core.List.{List, [], _∷_, _++_}
 use Prim.Native.Nat.{ℕ, zero, suc, _+_, _<_}
 use native.Mathlib.Nat.{zero-add, suc-add}
 use native.Mathlib.Omega.{arith}
-use lib.ListN.{length, getD, set, drop, length-append}
+use lib.ListN.{length, getD, set, take, drop, length-append}
 
 module _ {A : Type 0} where
   pub length-more : (l : List A) (x : A) → length (l ++ (x ∷ [])) ≡ suc (length l)
@@ -17,6 +17,12 @@ module _ {A : Type 0} where
   drop-set zero k l x = rw (zero-add k)
   drop-set (suc n) k [] x = refl
   drop-set (suc n) k (y ∷ l) x = rw (suc-add n k) (drop-set n k l x)
+
+  -- .. and the first n are as they were
+  pub take-set : (n k : ℕ) (l : List A) (x : A) → take n (set l (n + k) x) ≡ take n l
+  take-set zero k l x = refl
+  take-set (suc n) k [] x = refl
+  take-set (suc n) k (y ∷ l) x = rw (suc-add n k) (ap (λ (r : List A). y ∷ r) (take-set n k l x))
 
   -- what holds of each and of the new one, by index
   pub each-more :

@@ -2,9 +2,10 @@
 -- Assumes nothing.
 use mathlib.Core.Path.{_≡_}
 use mathlib.Core.List.{List}
-use Prim.Native.Nat.{ℕ, _<_}
+use Prim.Native.Nat.{ℕ, _+_, _≤_, _<_}
 use native.Mathlib.Omega.{arith}
 use lib.ListN.{length, getD, take, drop}
+use lib.Seq.{getD-take, getD-drop}
 use Rattle.ranks.specs.Ranks.{Turned}
 use Rattle.ranks.proofs.Entries.{entry-of-rank-list-below}
 use Rattle.study.specs.Study.{Study}
@@ -14,7 +15,7 @@ use Rattle.orders.proofs.Renamed.{Ranked, greedy-renamed, counted-renamed}
 use Rattle.walks.specs.Walks.{OnAWalk, ComesBefore}
 use Rattle.walks.proofs.Leads.{on-walk-usable}
 use Rattle.ordering.specs.Ordering.{Ordered, Orderable}
-use Rattle.hanging.specs.Hanging.{InWord, DirectlyBefore, TakenByName}
+use Rattle.hanging.specs.Hanging.{beforeIn, hungIn, InWord, DirectlyBefore, NoneHung, TakenByName}
 use Rattle.taking.specs.Taking.{TakenGreedily}
 use Rattle.stages.specs.Whole.{Walking}
 use Rattle.stages.proofs.Stages.{walking-wishes, walking-rowed, walking-ranks}
@@ -35,14 +36,22 @@ module _
     pub rank-below : (i : ℕ) → i < length ranks → getD ranks i 0 < length ranks
     rank-below = entry-of-rank-list-below (walking-ranks walking)
 
-    module _ {members : ℕ} {before : List ℕ} {names : List ℕ} (ordered : Ordered t ranks members before) (turned : Turned ranks names) where
-      by-rank : Ranked (OnAWalk t) (InWord members) (ComesBefore t) (DirectlyBefore before) (λ i. getD ranks i 0) (λ r. getD names r 0)
+    module _ (few : length ranks ≤ 64) {members : ℕ} {words : List ℕ} {names : List ℕ} (ordered : Ordered t ranks members words) (turned : Turned ranks names) where
+      walk-rank : {i : ℕ} → OnAWalk t i → getD ranks i 0 < 64
+      walk-rank {i} on = omega (arith, rank-below i (omega (arith, on-walk-usable on, walking .actions .count)))
+
+      pub none-hung : NoneHung (hungIn words)
+      none-hung x y h =
+          let (j, (there, is)) = ordered .named (64 + x) y (rw (getD-drop 64 words x 0) at h) in
+          omega (arith, rank-below j (omega (arith, walking .actions .count)))
+
+      by-rank : Ranked (OnAWalk t) (InWord members) (ComesBefore t) (DirectlyBefore (beforeIn words)) (λ i. getD ranks i 0) (λ r. getD names r 0)
       by-rank = record {
         there = ordered .member;
         back = ordered .only-members;
         named = λ x m. turned .inverse x (omega (arith, on-walk-usable m, walking .actions .count)) .1;
-        comes = ordered .complete;
-        came = ordered .sound;
+        comes = λ x y m n b. rw (getD-take 64 words (getD ranks y 0) 0 (walk-rank n)) (ordered .complete x y m n b);
+        came = λ x y m n b. ordered .sound x y m n (rw (getD-take 64 words (getD ranks y 0) 0 (walk-rank n)) at b);
       }
 
       pub members-counted : Counted (InWord members) total
@@ -55,5 +64,5 @@ module _
             long = walking .counted;
           }
 
-      pub taken-greedily : {k : ℕ} {room : List ℕ} → TakenByName members before names k room → TakenGreedily t ranks (take k (drop 256 room))
+      pub taken-greedily : {k : ℕ} {room : List ℕ} → TakenByName members (beforeIn words) names k room → TakenGreedily t ranks (take k (drop 256 room))
       taken-greedily by-name = rw (by-name .named) (greedy-renamed by-rank (by-name .list) (by-name .greedy))

@@ -105,7 +105,7 @@ fn plan_few(
         → WalkingIn (now (file .entry)) (now (ranks .entry)) n total (now (acts .entry)) (now (vars .entry)) (now (room .entry)) (now (steps .entry)) t
         → Plans t (now (ranks .entry)) (now (plan .entry)) r (now (plan .exit))) ⌝ }
 {
-    let mut before = [0u64; 64];
+    let mut words = [0u64; 128];
     let found = ordering::order_all(
         file,
         ranks,
@@ -114,13 +114,13 @@ fn plan_few(
         vars,
         room,
         steps,
-        &mut before,
+        &mut words,
     );
     let Found::Members(members) = found else {
         return answers::unordered(found);
     };
     ranking::name_all(ranks, room);
-    let taken = hanging::take(members, total, &before, room);
+    let taken = hanging::take(members, total, &mut words, room);
     finish(taken, total, room, plan)
 }
 

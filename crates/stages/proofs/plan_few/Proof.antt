@@ -4,7 +4,7 @@ use mathlib.Core.Path.{refl, ap, _∙_}
 use native.Mathlib.Omega.{arith}
 use Rattle.stages.specs.Answers.{notOrdered}
 use Rattle.stages.proofs.Stages.{all-zeros, all-few, ranks-apart, walking-off, walking-taken}
-use Rattle.stages.proofs.Few.{walking-orderable, rank-below, members-counted, taken-greedily}
+use Rattle.stages.proofs.Few.{walking-orderable, rank-below, members-counted, none-hung, taken-greedily}
 use borrow.Author.Needs.{needs}
 use Rattle.stages.proofs.plan_few.Statement.{statement}
 use Rattle.stages.proofs.plan_few.Tie as tie
@@ -27,7 +27,7 @@ unordered-requires c κs = search needs
 returns : tie.Need-returns
 returns c t n walking =
     let e = c .before .enum-told .given .1 in
-    let off = rw e at (c .before .before .before .order-all .ensures .1 t (walking-orderable walking) (ranks-apart walking) (all-zeros 64)) in
+    let off = rw e at (c .before .before .before .order-all .ensures .1 t (walking-orderable walking) (ranks-apart walking) (all-zeros 128)) in
     rw (c .unordered .ensures ∙ ap notOrdered e) (walking-off walking off)
 
 name-all-requires : tie.Need-name-all-requires
@@ -40,8 +40,15 @@ take-requires c κs =
     let o = f .before .before in
     let s = o .before .before .before .before .before .before in
     let (t, n, walking) = s .pre .2 in
-    let ordered = rw (f .found .given .1) at (o .order-all .ensures .1 t (walking-orderable walking) (ranks-apart walking) (all-zeros 64)) in
-    (all-few walking, m .name-all .ensures .0, members-counted walking (ordered .1) (m .name-all .ensures .1 (ranks-apart walking)))
+    let ordered = rw (f .found .given .1) at (o .order-all .ensures .1 t (walking-orderable walking) (ranks-apart walking) (all-zeros 128)) in
+    let few = s .pre .1 in
+    let turned = m .name-all .ensures .1 (ranks-apart walking) in (
+      all-few walking,
+      o .order-all .ensures .0,
+      m .name-all .ensures .0,
+      members-counted walking few (ordered .1) turned,
+      none-hung walking few (ordered .1) turned,
+    )
 
 finish-requires : tie.Need-finish-requires
 finish-requires c κs =
@@ -60,9 +67,10 @@ returns-2 c t n walking =
     let m = k .before .before .before in
     let f = m .before .before .before in
     let o = f .before .before in
-    let ordered = rw (f .found .given .1) at (o .order-all .ensures .1 t (walking-orderable walking) (ranks-apart walking) (all-zeros 64)) in
+    let few = o .before .before .before .before .before .before .pre .1 in
+    let ordered = rw (f .found .given .1) at (o .order-all .ensures .1 t (walking-orderable walking) (ranks-apart walking) (all-zeros 128)) in
     g .finish .ensures t _
-    (walking-taken walking (ordered .0) _ _ (taken-greedily walking (ordered .1) (m .name-all .ensures .1 (ranks-apart walking)) (k .take .ensures .1)))
+    (walking-taken walking (ordered .0) _ _ (taken-greedily walking few (ordered .1) (m .name-all .ensures .1 (ranks-apart walking)) (k .take .ensures .1)))
 
 pub plan-few-spec : {M : Type 1} → statement M
 plan-few-spec =
