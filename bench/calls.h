@@ -1,4 +1,4 @@
-/* The six calls of a side, the library or the yardstick, and what one of them is given: for the hosts that count and time. */
+/* The seven calls of a side, the library or the yardstick, and what one of them is given: for the hosts that count and time. */
 #ifndef CALLS_H
 #define CALLS_H
 
@@ -11,29 +11,38 @@ typedef struct {
   marrowkite_answer (*run)(const uint8_t *, size_t, const uint8_t *, size_t, uint8_t *, size_t);
   marrowkite_answer (*draw)(uint64_t, uint64_t, uint8_t *, size_t);
   marrowkite_record (*record_at)(const uint8_t *, size_t, uint64_t);
+  marrowkite_answer (*write)(const uint8_t *, size_t, const uint8_t *, size_t, const uint8_t *, size_t, const uint8_t *,
+                             size_t, uint32_t, uint8_t *, size_t);
 } calls;
 
-static const calls library = {marrowkite_check, marrowkite_plan, marrowkite_plan_seeded,
-                              marrowkite_run,   marrowkite_draw, marrowkite_record_at};
-static const calls plain = {plain_check, plain_plan, plain_plan_seeded, plain_run, plain_draw, plain_record_at};
+static const calls library = {marrowkite_check, marrowkite_plan,      marrowkite_plan_seeded, marrowkite_run,
+                              marrowkite_draw,  marrowkite_record_at, marrowkite_write};
+static const calls plain = {plain_check, plain_plan,      plain_plan_seeded, plain_run,
+                            plain_draw,  plain_record_at, plain_write};
 
-enum { RECORD_AT, CHECK, PLAN, PLAN_SEEDED, RUN, DRAW };
+enum { RECORD_AT, CHECK, PLAN, PLAN_SEEDED, RUN, DRAW, WRITE };
+enum { READ = 4, ROOM = 32768 };
 
-/* Which call, two numbers (the place; or the seed and the count), and how many bytes of file, list and buffer. */
+/* Which call, two numbers (the place; or the seed and the count; or the seed), how many bytes of the slices that are read
+ * (file and list; or variables, actions, conditions and tasks) and of the buffer. */
 typedef struct {
-  size_t which, one, two, file_len, list_len, buffer_len;
+  size_t which, one, two, len[READ], buffer_len;
 } given;
 
-static uint8_t file[32768], list[512], buffer[512];
+static uint8_t in[READ][ROOM], buffer[ROOM];
 
 static void make_calls(const calls *c, given g, size_t often) {
+  const uint8_t *file = in[0], *list = in[1];
+  size_t file_len = g.len[0], list_len = g.len[1];
   for (size_t k = 0; k < often; k++) {
-    if (g.which == CHECK) c->check(file, g.file_len);
-    if (g.which == PLAN) c->plan(file, g.file_len, list, g.list_len, buffer, g.buffer_len);
-    if (g.which == PLAN_SEEDED) c->plan_seeded(file, g.file_len, buffer, g.buffer_len);
-    if (g.which == RUN) c->run(file, g.file_len, list, g.list_len, buffer, g.buffer_len);
+    if (g.which == CHECK) c->check(file, file_len);
+    if (g.which == PLAN) c->plan(file, file_len, list, list_len, buffer, g.buffer_len);
+    if (g.which == PLAN_SEEDED) c->plan_seeded(file, file_len, buffer, g.buffer_len);
+    if (g.which == RUN) c->run(file, file_len, list, list_len, buffer, g.buffer_len);
     if (g.which == DRAW) c->draw(g.one, g.two, buffer, g.buffer_len);
-    if (g.which == RECORD_AT) c->record_at(file, g.file_len, g.one);
+    if (g.which == RECORD_AT) c->record_at(file, file_len, g.one);
+    if (g.which == WRITE)
+      c->write(in[0], g.len[0], in[1], g.len[1], in[2], g.len[2], in[3], g.len[3], (uint32_t)g.one, buffer, g.buffer_len);
   }
 }
 
@@ -48,13 +57,12 @@ static void read_all(uint8_t *to, size_t len) {
   }
 }
 
-/* Six words, in the order of `given`; the bytes of file and list come on standard input. */
+/* Eight words, in the order of `given`; the bytes that are read come on standard input. */
 static given read_given(char **words) {
-  size_t n[6];
-  for (int i = 0; i < 6; i++) n[i] = (size_t)strtol(words[i], 0, 10);
-  given g = {n[0], n[1], n[2], n[3], n[4], n[5]};
-  read_all(file, g.file_len);
-  read_all(list, g.list_len);
+  size_t n[8];
+  for (int i = 0; i < 8; i++) n[i] = (size_t)strtol(words[i], 0, 10);
+  given g = {n[0], n[1], n[2], {n[3], n[4], n[5], n[6]}, n[7]};
+  for (int i = 0; i < READ; i++) read_all(in[i], g.len[i]);
   return g;
 }
 

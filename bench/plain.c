@@ -401,3 +401,93 @@ marrowkite_record plain_record_at(const uint8_t *file, size_t file_len, uint64_t
   if (file_len - at - 1 < len) return (marrowkite_record){1, 0, at, 0, at};
   return (marrowkite_record){0, kind, at + 1, len, at + 1 + len};
 }
+
+/* The lists that a file is written from. */
+typedef struct {
+  const uint8_t *counts, *actions, *conditions, *tasks;
+  size_t variables, actions_len, conditions_len, tasks_len;
+  uint32_t seed;
+} lists;
+
+/* What the reader says of the file that the lists stand for: 0 and its length, or the refusal. Where a record stands follows
+ * from how many of each kind come before it. */
+PART answer judge(const lists *l) {
+  uint16_t set[MOST_VARIABLES];
+  size_t n = l->variables, used = 0, i = 0, a = 0, t = 0;
+  for (size_t v = 0; v < n; v++) {
+    if (v == MOST_VARIABLES) return refused(4, 2 * v);
+    if (l->counts[v] - 2u > 14) return refused(5, 2 * v);
+    set[v] = 0;
+  }
+  if (n == 0) return refused(3, 0);
+  const uint8_t *counts = l->counts, *c = l->conditions;
+  for (; l->actions_len - i >= 4; i += 4) {
+    const uint8_t *entry = l->actions + i;
+    size_t place = 2 * n + 4 * a++;
+    if (a > MOST_ACTIONS) return refused(4, place + 3 * used / 2);
+    unsigned v = entry[0], p = entry[1], q = entry[2], above = 0;
+    if (v >= n || p >= counts[v] || q >= counts[v]) return refused(5, place + 3 * used / 2);
+    if (p == q) return refused(6, place + 3 * used / 2);
+    if (set[v] >> q & 1) return refused(7, place + 3 * used / 2);
+    set[v] |= (uint16_t)(1u << q);
+    size_t end = used + 2 * (size_t)entry[3], lent = l->conditions_len & ~(size_t)1;
+    if (end < lent) lent = end;
+    for (; used < lent; used += 2) {
+      unsigned u = c[used];
+      if (u >= n || c[used + 1] >= counts[u]) return refused(5, place + 4 + 3 * used / 2);
+      if (u == v || u < above) return refused(6, place + 4 + 3 * used / 2);
+      above = u + 1;
+    }
+    if (used < end) return refused(5, place + 4 + 3 * used / 2);
+  }
+  size_t at = 2 * n + 4 * a + 3 * used / 2;
+  if (i < l->actions_len || used < l->conditions_len) return refused(a == MOST_ACTIONS ? 4 : 5, at);
+  for (i = 0; l->tasks_len - i >= 3; i += 3, at += 4, t++) {
+    if (t == n) return refused(3, at);
+    const uint8_t *entry = l->tasks + i;
+    if (entry[0] != t || entry[1] >= counts[t] || entry[2] >= counts[t]) return refused(5, at);
+  }
+  if (i < l->tasks_len) return refused(t == n ? 3 : 5, at);
+  if (t < n) return refused(3, at);
+  if (l->seed - 1 >= LARGEST_SEED) return refused(5, at);
+  return three(0, at + 6, 0);
+}
+
+/* Bytes as a number, the first the least significant, as x86-64 has them. */
+PART uint32_t two_at(const uint8_t *from) { uint16_t word; memcpy(&word, from, 2); return word; }
+PART uint32_t four_at(const uint8_t *from) { uint32_t word; memcpy(&word, from, 4); return word; }
+PART void put_four(uint8_t *to, uint32_t word) { memcpy(to, &word, 4); }
+PART void put_eight(uint8_t *to, uint64_t word) { memcpy(to, &word, 8); }
+
+/* Writes what was judged good. A store may pass the end of its record, never that of the file, since a task, the seed and the
+ * end follow: the bytes too many are written over by the records behind. */
+PART void spell(const lists *l, uint8_t *to) {
+  const uint8_t *c = l->conditions;
+  for (size_t v = 0; v < l->variables; v++, to += 2) to[0] = VARIABLE, to[1] = l->counts[v];
+  for (size_t i = 0; i < l->actions_len; i += 4) {
+    put_four(to, four_at(l->actions + i) << 8 | ACTION);
+    to += 4;
+    const uint8_t *end = c + 2 * (size_t)l->actions[i + 3];
+    for (; end - c >= 4; c += 4, to += 6) {
+      uint64_t word = four_at(c);
+      put_eight(to, (word >> 16) << 32 | CONDITION << 24 | (word & 0xffff) << 8 | CONDITION);
+    }
+    for (; c < end; c += 2, to += 3) put_four(to, two_at(c) << 8 | CONDITION);
+  }
+  for (size_t i = 0; i < l->tasks_len; i += 3, to += 4)
+    to[0] = TASK, to[1] = l->tasks[i], to[2] = l->tasks[i + 1], to[3] = l->tasks[i + 2];
+  to[0] = SEED;
+  put_four(to + 1, __builtin_bswap32(l->seed));
+  to[5] = END;
+}
+
+answer plain_write(const uint8_t *variables, size_t variables_len, const uint8_t *actions, size_t actions_len,
+                   const uint8_t *conditions, size_t conditions_len, const uint8_t *tasks, size_t tasks_len, uint32_t seed,
+                   uint8_t *file, size_t file_len) {
+  lists l = {variables, actions, conditions, tasks, variables_len, actions_len, conditions_len, tasks_len, seed};
+  answer judged = judge(&l);
+  if (judged.number != 0) return judged;
+  if (file_len < judged.first) return refused(13, judged.first);
+  spell(&l, file);
+  return judged;
+}

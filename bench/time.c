@@ -15,10 +15,14 @@ static double now(void) {
 }
 
 /* A round takes about a third of a millisecond. */
-static size_t calls_a_round(given g) { return 20 + 200000 / (20 + g.file_len); }
+static size_t calls_a_round(given g) {
+  size_t len = 0;
+  for (int i = 0; i < READ; i++) len += g.len[i];
+  return 20 + 200000 / (20 + len);
+}
 
 int main(int count, char **words) {
-  if (count < 8) return 2;
+  if (count < 10) return 2;
   size_t rounds = (size_t)strtol(words[1], 0, 10);
   given g = read_given(words + 2);
   const calls *sides[] = {&library, &plain};

@@ -76,6 +76,7 @@
  *   marrowkite_run            3,584
  *   marrowkite_draw             128
  *   marrowkite_record_at        128
+ *   marrowkite_write            896
  */
 #ifndef MARROWKITE_H
 #define MARROWKITE_H
@@ -136,6 +137,27 @@ marrowkite_answer marrowkite_draw(uint64_t seed, uint64_t count, uint8_t *ranks,
  * next are `at`, or the file length if `at` is at or past the end.
  */
 marrowkite_record marrowkite_record_at(const uint8_t *file, size_t file_len, uint64_t at);
+
+/*
+ * Writes the file that lists stand for. Their entries, in bytes:
+ *
+ *   variables    1   how many values it has
+ *   actions      4   variable, pre, post, how many conditions
+ *   conditions   2   variable, value: the actions take them in turn, each as many as it says
+ *   tasks        3   variable, start, goal
+ *
+ * What is missing stands for numbers of 255, and no record may have these, so it is refused and never passed over:
+ * - An entry that is cut short has 255 for each of its numbers. Such an action takes all conditions that are left.
+ * - A condition that an action says and that is not lent is 255, 255.
+ * - Conditions that no action takes are those of one more action, 255, 255, 255.
+ *
+ * 3 to 7 as marrowkite_check answers for the file's bytes (first: the offset in them); then 13.
+ * Done: first is the file's length; the file fills the first bytes of `file`. 25,030 bytes are always enough.
+ */
+marrowkite_answer marrowkite_write(const uint8_t *variables, size_t variables_len, const uint8_t *actions,
+                                   size_t actions_len, const uint8_t *conditions, size_t conditions_len,
+                                   const uint8_t *tasks, size_t tasks_len, uint32_t seed, uint8_t *file,
+                                   size_t file_len);
 
 #ifdef __cplusplus
 }

@@ -1,4 +1,4 @@
-"""The cases that the program `cases` runs, from document 01's text alone: nothing here is taken from the Rattle code.
+"""The cases that the program `cases` runs, from the documents' text alone: nothing here is taken from the Rattle code.
 
 usage: cases.py stdin     prints the program's input
        cases.py stdout    prints what the program must write
@@ -8,11 +8,11 @@ import sys
 
 sys.dont_write_bytecode = True
 
-from calls import checks, draws, plans, records, runs
+from calls import checks, draws, plans, records, runs, writes
 from calls.book import Book
 
 book = Book()
-for kind in (draws, records, checks, runs, plans):
+for kind in (draws, records, checks, runs, plans, writes):
     kind.write(book)
 book.case("a word that the program does not know")
 book.ask("fly 12", "not understood")

@@ -1,8 +1,9 @@
-"""The oracle: every call of document 01, from its definitions alone.
+"""The oracle: every call of document 01 and of the requests in document 02 that have landed, from the definitions alone.
 
-It stands by itself and uses neither the Rattle code nor the other scripts. One convention is the project's and not document
-01's: which five numbers a record that is not there gives (see record_at; crates/records/specs/Records.antt has it too). Each
-call is a function of the call's name that takes the inputs in the call's order, buffers as bytes, and answers (numbers,
+It stands by itself and uses neither the Rattle code nor the other scripts. Two conventions are the project's and not the
+documents': which five numbers a record that is not there gives (see record_at; crates/records/specs/Records.antt has it too),
+and what stands for numbers that a writer's lists announce and do not hold (see UNLENT; docs/DECISIONS.md, 'Writing files').
+Each call is a function of the call's name that takes the inputs in the call's order, buffers as bytes, and answers (numbers,
 buffer afterwards):
 
     record_at(file, at)          five numbers: number, kind, start of the body, its length, the place after it
@@ -11,9 +12,11 @@ buffer afterwards):
     plan_seeded(file, buffer)
     run(file, steps, buffer)
     draw(seed, count, buffer)
+    write(variables, actions, conditions, tasks, seed, buffer)
 
 record_at and check write nothing; their buffer afterwards is b"". `printed(input)` is what the program prints.
-`calls(seed, n)` yields n calls as (name, inputs), and `answer(name, inputs)` is what such a call answers.
+`calls(seed, n)` yields n calls as (name, inputs), all but writes, and `writes(seed, n)` n writes; `answer(name, inputs)` is
+what such a call answers.
 
     python3 tests/oracle.py --self-test      document 01's worked cases; both ways of planning on random small files
 """
@@ -499,6 +502,49 @@ def draw(seed, count, buffer):
         return refused.numbers, buffer
 
 
+# What stands for each number of an entry that is cut short, and of a condition that is announced and not lent. Conditions
+# that no action takes are those of one more action, all of whose numbers are this; so are all that an action that is cut
+# short finds left.
+UNLENT = 255
+
+
+def entries_in(data, width):
+    """The entries of a list of bytes, so many numbers each."""
+    entries = [tuple(data[at : at + width]) for at in range(0, len(data), width)]
+    return [entry if len(entry) == width else (UNLENT,) * width for entry in entries]
+
+
+def lent_actions(actions, conditions):
+    """The actions, each with its conditions, that two lists of bytes stand for."""
+    left = entries_in(conditions, 2)
+    lent = []
+    for at in range(0, len(actions), 4):
+        entry = actions[at : at + 4]
+        variable, pre, post, many = entry if len(entry) == 4 else (UNLENT, UNLENT, UNLENT, len(left))
+        missing = [(UNLENT, UNLENT)] * (many - len(left))
+        lent.append(Action(variable, pre, post, left[:many] + missing))
+        left = left[many:]
+    return lent + [Action(UNLENT, UNLENT, UNLENT, left)] * bool(left)
+
+
+def file_of_lists(variables, actions, conditions, tasks, seed):
+    """The bytes that the lists stand for: the records one after another in the file's order. Nothing is tested."""
+    records = [bytes([VARIABLE, count]) for count in variables]
+    records += [record for action in lent_actions(actions, conditions) for record in action_records(action)]
+    records += [bytes([TASK, *task]) for task in entries_in(tasks, 3)]
+    return b"".join(records) + seed_record(seed) + bytes([END])
+
+
+def write(variables, actions, conditions, tasks, seed, buffer):
+    """Refused exactly as the reader refuses the bytes; then 13."""
+    file = file_of_lists(variables, actions, conditions, tasks, seed)
+    try:
+        read(file)
+        return (0, len(file), 0), filled(buffer, file)
+    except Refused as refused:
+        return refused.numbers, buffer
+
+
 CALLS = {
     "record_at": record_at,
     "check": check,
@@ -506,6 +552,7 @@ CALLS = {
     "plan_seeded": plan_seeded,
     "run": run,
     "draw": draw,
+    "write": write,
 }
 
 
@@ -538,17 +585,32 @@ def action_records(action):
     ]
 
 
+def seed_record(seed):
+    return bytes([SEED]) + seed.to_bytes(4, "big")
+
+
 def records_of(study):
     return (
         [bytes([VARIABLE, count]) for count in study.counts]
         + [record for action in study.actions for record in action_records(action)]
         + [bytes([TASK, v, start, goal]) for v, (start, goal) in enumerate(study.tasks)]
-        + [bytes([SEED]) + study.seed.to_bytes(4, "big"), bytes([END])]
+        + [seed_record(study.seed), bytes([END])]
     )
 
 
 def file_of(study):
     return b"".join(records_of(study))
+
+
+def lists_of(study):
+    """What `write` is given to write the study: variables, actions, conditions, tasks, seed."""
+    return (
+        bytes(study.counts),
+        bytes(byte for a in study.actions for byte in (a.variable, a.pre, a.post, len(a.conditions))),
+        bytes(byte for a in study.actions for condition in a.conditions for byte in condition),
+        bytes(byte for v, (start, goal) in enumerate(study.tasks) for byte in (v, start, goal)),
+        study.seed,
+    )
 
 
 # ---------------------------------------------------------------------------------------------------------------------
@@ -862,7 +924,7 @@ def with_records_damaged(rng, study):
     return b"".join(records)
 
 
-def with_named_fault(rng, study):
+def give_named_fault(rng, study):
     """One of the faults that documents name: in values, order of conditions, own variable, repeated post, task or seed."""
     way = rng.randrange(8)
     if way == 0:
@@ -885,6 +947,10 @@ def with_named_fault(rng, study):
             study.actions.insert(rng.randint(0, len(study.actions)), twin)
         else:
             action.pre = rng.choice([action.post, study.counts[action.variable]])
+
+
+def with_named_fault(rng, study):
+    give_named_fault(rng, study)
     return file_of(study)
 
 
@@ -1105,6 +1171,120 @@ def calls(seed, n):
 
 
 # ---------------------------------------------------------------------------------------------------------------------
+# Writes
+
+
+def write_of(rng, lists):
+    """A write, into a buffer that is as long as the file that the lists stand for, longer or shorter."""
+    needed = len(file_of_lists(*lists))
+    length = rng.choice([needed, needed, needed + 1, needed + rng.randint(2, 40), needed - 1, rng.randint(0, needed), 0])
+    return "write", (*lists, rng.randbytes(length))
+
+
+def lists_that_load(rng):
+    return lists_of(rng.choices([small_study, middling], [20, 1])[0](rng))
+
+
+def lists_with_named_fault(rng):
+    study = small_study(rng)
+    give_named_fault(rng, study)
+    return lists_of(study)
+
+
+def with_list_damaged(rng, lists, which, damages):
+    lists = list(lists)
+    lists[which] = rng.choice(damages)(rng, lists[which]) if lists[which] else bytes([some_byte(rng)])
+    return tuple(lists)
+
+
+def damaged_lists(rng):
+    """Bytes of one or two lists changed, put in or left out: entries that are cut, conditions missing or left over."""
+    lists = lists_of(small_study(rng))
+    for _ in range(rng.choice([1, 1, 2])):
+        lists = with_list_damaged(rng, lists, rng.randrange(4), BYTE_DAMAGE)
+    return lists
+
+
+def cut_lists(rng):
+    """A last entry that is cut, or conditions left over or missing, and no other fault."""
+    lists = lists_of(small_study(rng))
+    which = rng.randrange(1, 4)
+    return with_list_damaged(rng, lists, which, [cut, lambda rng, data: data + data[: rng.randint(1, len(data))]])
+
+
+def lists_with_many(rng):
+    """An action that announces more conditions than there are variables, whether they are lent or not."""
+    variables, actions, conditions, tasks, seed = lists_of(small_study(rng))
+    at = rng.randint(0, len(actions) // 4) * 4
+    many = rng.choice([1, 31, 32, 33, 254, 255])
+    lent = rng.choice([0, 2 * many - 1, 2 * many, 2 * many + 2])
+    more = bytes(rng.randrange(3) for _ in range(lent))
+    entry = bytes([rng.randrange(len(variables)), 0, 1, many])
+    return variables, actions[:at] + entry + actions[at:], conditions + more, tasks, seed
+
+
+def lists_without(rng):
+    """Some lists empty."""
+    lists = list(lists_of(small_study(rng)))
+    for which in rng.sample(range(4), rng.randint(1, 4)):
+        lists[which] = b""
+    return tuple(lists)
+
+
+def lists_at_limits(rng):
+    return lists_of(large_study(rng))
+
+
+def lists_beyond_limits(rng):
+    """A 33rd variable, a 257th action, conditions left over behind the 256th, a 32nd condition; faulty otherwise or not."""
+    way = rng.randrange(4)
+    if way == 0:
+        study = most_variables(rng)
+        study.counts.append(rng.choice([0, 2, 16, 17]))
+        return lists_of(study)
+    study = whole_circles(rng) if way < 3 else one_action_each(rng)
+    if way == 1:
+        study.counts.append(2)
+        study.tasks.append((0, 1))
+        study.actions.append(Action(*rng.choice([(16, 0, 1), (0, 0, 1), (17, 0, 1), (16, 1, 1)])))
+    if way == 3:
+        action = rng.choice(study.actions)
+        action.conditions.append(rng.choice([(31, 1), (32, 0), (action.variable, 1), (0, 2)]))
+    variables, actions, conditions, tasks, seed = lists_of(study)
+    if way == 2:
+        cut_or_left = rng.choice([(b"\0", b""), (b"\0\0\1", b"\0\0"), (b"", b"\0"), (b"", b"\0\0")])
+        return variables, actions + cut_or_left[0], conditions + cut_or_left[1], tasks, seed
+    return variables, actions, conditions, tasks, seed
+
+
+def any_lists(rng):
+    """Bytes of any kind."""
+    most = rng.choice([4, 12, 300])
+    lists = (bytes(some_byte(rng) for _ in range(rng.randint(0, most))) for _ in range(4))
+    return (*lists, rng.choice([*BAD_SEEDS, 1, LARGEST_SEED, rng.randrange(2**32)]))
+
+
+def writes(seed, n):
+    """Yields n writes, the same for the same seed and n: lists that load, lists at and beyond the limits, faults of each kind."""
+    rng = random.Random(seed)
+    makers = [
+        (300, lists_that_load),
+        (250, lists_with_named_fault),
+        (200, damaged_lists),
+        (100, cut_lists),
+        (60, lists_with_many),
+        (30, lists_without),
+        (12, lists_at_limits),
+        (18, lists_beyond_limits),
+        (30, any_lists),
+    ]
+    weights = [weight for weight, _ in makers]
+    for _ in range(n):
+        _, maker = rng.choices(makers, weights)[0]
+        yield write_of(rng, maker(rng))
+
+
+# ---------------------------------------------------------------------------------------------------------------------
 # Self-test
 
 PORTER = bytes.fromhex(
@@ -1184,6 +1364,83 @@ def worked_cases():
     yield 17, "draw", (2147483647, 1, room), (18, 2147483647, 0), b""
     yield 17, "draw", (1, 256, bytes(256)), (0, drawn(1, 256)[1], 0), bytes(drawn(1, 256)[0])
     yield 17, "draw", (1, 257, bytes(300)), (19, 257, 0), b""
+
+
+def worked_writes():
+    """Writes worked by hand: the lists, the buffer's length, the three numbers. In hexadecimal: variables, actions, conditions
+    and tasks."""
+    variables, actions = "020302", "00000100 01000100 01010202 02000102 00010000"
+    conditions, tasks = "0001 0201 0001 0101", "000001 010002 020001"
+
+    def porter_with(v=variables, a=actions, c=conditions, t=tasks, seed=1):
+        return v, a, c, t, seed
+
+    yield porter_with(), 56, (0, 56, 0)
+    yield porter_with(), 60, (0, 56, 0)
+    yield porter_with(), 55, (13, 56, 0)
+    yield porter_with(), 0, (13, 56, 0)
+    yield porter_with(seed=LARGEST_SEED), 56, (0, 56, 0)
+    yield porter_with(a="", c=""), 24, (0, 24, 0)
+    for seed in BAD_SEEDS:
+        yield porter_with(seed=seed), 0, (5, 50, 0)
+    # 3: where a record stands that may not come
+    yield ("", "", "", "", 1), 9, (3, 0, 0)
+    yield ("", actions, conditions, tasks, 1), 9, (3, 0, 0)
+    yield ("", "", "0001", "", 1), 9, (3, 0, 0)
+    yield ("", "", "", tasks, 1), 9, (3, 0, 0)
+    yield porter_with(t=""), 99, (3, 38, 0)
+    yield porter_with(t="000001 010002"), 99, (3, 46, 0)
+    yield porter_with(t="000001 010002 020001 030001"), 99, (3, 50, 0)
+    yield porter_with(t="000001 010002 020001 02"), 99, (3, 50, 0)
+    # 4, 5, 6, 7
+    yield ("02" * 33, "", "", "", 1), 0, (4, 64, 0)
+    yield ("02" * 32 + "00", "", "", "", 1), 0, (4, 64, 0)
+    yield porter_with(v="020102"), 56, (5, 2, 0)
+    yield porter_with(v="021102"), 56, (5, 2, 0)
+    yield porter_with(v="02"), 56, (5, 6, 0)
+    yield porter_with(a=actions.replace("01010202", "01010302")), 56, (5, 14, 0)
+    yield porter_with(c="0001 0201 0001 0103"), 56, (5, 31, 0)
+    yield porter_with(c="0001 0301 0001 0101"), 56, (5, 21, 0)
+    yield porter_with(t="010002 000001 020001"), 56, (5, 38, 0)
+    yield porter_with(t="000001 010003 020001"), 56, (5, 42, 0)
+    yield porter_with(a=actions.replace("01010202", "01010102")), 56, (6, 14, 0)
+    yield porter_with(c="0201 0001 0001 0101"), 56, (6, 21, 0)
+    yield porter_with(c="0001 0101 0001 0101"), 56, (6, 21, 0)
+    yield porter_with(a=actions.replace("00010000", "00000100")), 56, (7, 34, 0)
+    # entries that are cut, conditions that are missing, conditions that are left over
+    yield porter_with(a=actions + "00"), 56, (5, 38, 0)
+    yield porter_with(a=actions[:-2]), 56, (5, 34, 0)
+    yield porter_with(c=conditions[:-2]), 56, (5, 31, 0)
+    yield porter_with(c="0001 0201 0001"), 56, (5, 31, 0)
+    yield porter_with(c=""), 56, (5, 18, 0)
+    yield porter_with(c=conditions + "00"), 56, (5, 38, 0)
+    yield porter_with(c=conditions + "0001"), 56, (5, 38, 0)
+    yield porter_with(a=""), 56, (5, 6, 0)
+    yield porter_with(t="000001 010002 0200"), 56, (5, 46, 0)
+    yield porter_with(a=actions.replace("00010000", "000100ff")), 56, (5, 38, 0)
+
+
+def inputs_of_worked_write(lists, length):
+    *digits, seed = lists
+    return (*map(bytes.fromhex, digits), seed, b"\xaa" * length)
+
+
+def test_worked_writes():
+    cases = list(worked_writes())
+    for lists, length, numbers in cases:
+        inputs = inputs_of_worked_write(lists, length)
+        given, buffer = write(*inputs)
+        assert given == numbers, f"write {lists}: {given} and not {numbers}"
+        assert numbers[0] == 0 or buffer == inputs[-1]
+    assert write(*lists_of(read(PORTER)), bytes(56)) == ((0, 56, 0), PORTER)
+    assert write(*lists_of(read(PORTER)), b"\xaa" * 58) == ((0, 56, 0), PORTER + b"\xaa" * 2)
+    crowded, seventeen = crowded_with_actions(), bytes([16] * 17)
+    setters = bytes(byte for v in range(16) for q in range(16) for byte in (v, (q + 1) % 16, q, 0))
+    assert file_of_lists(seventeen, setters, b"", b"", 1)[: len(crowded)] == crowded
+    for actions, conditions, number in ((b"\x10\0\1\0", b"", 4), (b"\0", b"", 4), (b"", b"\0\0", 4), (b"", b"", 3)):
+        given = write(seventeen, setters + actions, conditions, b"", 1, b"")[0]
+        assert given == (number, 1058, 0), (actions, conditions, given)
+    return f"{len(cases)} writes worked by hand: agreed"
 
 
 def test_worked_cases():
@@ -1377,31 +1634,37 @@ ANSWERS_TO_MEET = {
     "plan_seeded": set(range(14)) - {9},
     "run": set(range(9)) | {13, 14, 15, 16, 17},
     "draw": {0, 13, 18, 19},
+    "write": {0, 3, 4, 5, 6, 7, 13},
 }
 
 
 def test_calls(seed, n):
     """Every call can be answered; a refusal alters nothing; each call meets each of its answers, and all limits are met."""
     seen = {name: Counter() for name in CALLS}
-    longest_file = longest_plan = 0
+    longest_file = longest_plan = longest_written = 0
     drawn_edges = set()
-    for name, inputs in calls(seed, n):
+    for name, inputs in itertools.chain(calls(seed, n), writes(seed, n // 5)):
         numbers, buffer = answer(name, inputs)
         seen[name][numbers[0]] += 1
-        if name in ("plan", "plan_seeded", "run", "draw"):
+        if name in ("plan", "plan_seeded", "run", "draw", "write"):
             assert len(buffer) == len(inputs[-1]) and (numbers[0] == 0 or buffer == inputs[-1])
         if name == "draw":
             drawn_edges.add((inputs[0], inputs[1], len(inputs[2])))
+        elif name == "write":
+            longest_written = max(longest_written, numbers[1] if numbers[0] == 0 else 0)
         elif name != "record_at" and numbers[0] == 0:
             longest_file = max(longest_file, len(inputs[0]))
+            if name == "check":
+                lists = lists_of(read(inputs[0]))
+                assert write(*lists, bytes(len(inputs[0]))) == ((0, len(inputs[0]), 0), inputs[0]), "written back"
         if name in ("plan", "plan_seeded") and numbers[0] == 0:
             longest_plan = max(longest_plan, numbers[1])
     for name, numbers in ANSWERS_TO_MEET.items():
         assert set(seen[name]) == numbers, f"{name} met {sorted(seen[name])} and not {sorted(numbers)}"
     assert set(draw_edges()) <= drawn_edges
-    assert (longest_file, longest_plan) == (LONGEST_FILE, 256), (longest_file, longest_plan)
-    assert list(calls(seed, 300)) == list(calls(seed, 300))
-    lines = [f"{n} calls answered, each answer of each call met, a file of {longest_file} bytes and a plan of 256 steps too"]
+    assert (longest_file, longest_plan, longest_written) == (LONGEST_FILE, 256, LONGEST_FILE), (longest_file, longest_plan)
+    assert list(calls(seed, 300)) == list(calls(seed, 300)) and list(writes(seed, 300)) == list(writes(seed, 300))
+    lines = [f"{n + n // 5} calls answered, each answer of each call met, a file of {longest_file} bytes and a plan of 256 steps too"]
     for name in CALLS:
         tally = ", ".join(f"{number}: {seen[name][number]}" for number in sorted(seen[name]))
         lines.append(f"  {name} {sum(seen[name].values())} ({tally})")
@@ -1436,6 +1699,7 @@ def self_test():
     tests = [
         (test_worked_cases, ()),
         (test_file_cases, ()),
+        (test_worked_writes, ()),
         (test_limits, (1,)),
         (test_both_ways, (1, 5000)),
         (test_calls, (1, 20000)),

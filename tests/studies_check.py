@@ -1,6 +1,7 @@
 """Checks studies/: each NAME.bin is what bin/make-study makes of NAME.study, and each NAME.out what the oracle says that the
 program prints for NAME.bin; each NAME.names has these lines with the table's words; and bin/make-study itself: its
-mistakes, --allow-bad, --names and --show. The last line is 'N passed, M failed'.
+mistakes, the refusals that it shows, --names and --show. It proves and builds the writer where that is still to be done.
+The last line is 'N passed, M failed'.
 
     python3 tests/studies_check.py             checks
     python3 tests/studies_check.py --write     writes every NAME.bin, NAME.out and NAME.names anew, then checks
@@ -12,6 +13,7 @@ import random
 import subprocess
 import sys
 import tempfile
+from collections import Counter
 from importlib.machinery import SourceFileLoader
 from pathlib import Path
 
@@ -41,17 +43,16 @@ IN_WORDS = ["porter", "hotel"]
 HEAD = "variables\n  a: x, y\n  b: x, y, z\nactions\n"
 TAIL = "tasks\n  a x -> y\n  b x -> z\nseed 5\n"
 
-# Tables that cannot be made sense of, or that the planner would refuse as files: the line, and a word of what is said.
+# Tables that cannot be made sense of: the line, and a word of what is said.
 MISTAKES = {
-    "": (0, "no variable"),
+    "": (0, "no seed"),
     "a: x, y\n": (1, "begins with"),
     "variables\n  a x, y\n": (2, "':'"),
     "variables\n  a: x, x\n": (2, "already"),
     "variables\n  a: x, y,\n": (2, "after the last"),
     "variables\n  a: x; y\n": (2, "cannot read"),
     "variables\n  a: x, y\n  a: x, y\n": (3, "already"),
-    "variables\n  a: x\n": (2, "2 to 16"),
-    "variables\n" + "".join(f"  a{v}: x, y\n" for v in range(33)): (34, "33rd"),
+    "variables\n  a: " + ", ".join(f"x{q}" for q in range(256)) + "\n": (2, "a byte"),
     HEAD + "  go: c x -> y\n" + TAIL: (5, "no variable 'c'"),
     HEAD + "  go: a x -> z\n" + TAIL: (5, "no value of a 'z'"),
     HEAD + "  go: a x y\n" + TAIL: (5, "'->'"),
@@ -60,32 +61,36 @@ MISTAKES = {
     HEAD + "  go: a x -> y when b x\n" + TAIL: (5, "'='"),
     HEAD + "  go: a x -> y when\n" + TAIL: (5, "variable's name"),
     HEAD + "  go: a x -> y\n  go: a y -> x\n" + TAIL: (6, "already"),
-    HEAD + "  go: a x -> x\n" + TAIL: (5, "same"),
-    HEAD + "  go: a x -> y when a = x\n" + TAIL: (5, "own variable"),
-    HEAD + "  go: a x -> y when b = x, b = y\n" + TAIL: (5, "same variable"),
-    HEAD + "  go: b x -> y\n  come: b z -> y\n" + TAIL: (6, "earlier action"),
+    HEAD + "  go: a x -> y when " + ", ".join(["b = x"] * 256) + "\n" + TAIL: (5, "a byte"),
     HEAD + TAIL + "tasks\n": (9, "comes after"),
     HEAD + TAIL + "  a x -> y\n": (9, "after the seed"),
-    HEAD + TAIL.replace("  b x -> z\n", ""): (7, "no task for: b"),
-    HEAD + TAIL.replace("  b x -> z\n", "  a x -> y\n"): (7, "already"),
     HEAD + TAIL.replace("seed 5\n", ""): (7, "no seed"),
-    HEAD + TAIL.replace("5", "0"): (8, "not in 1 to"),
-    HEAD + TAIL.replace("5", "2147483647"): (8, "not in 1 to"),
     HEAD + TAIL.replace("5", "4294967296"): (8, "four bytes"),
     HEAD + TAIL.replace("5", "five"): (8, "four bytes"),
 }
 
-# Tables that --allow-bad makes files of, and the refusal of these.
-BAD_TABLES = {
-    "variables\n  a: x\n" + "tasks\n  a x -> x\nseed 1\n": (5, 0, 0),
-    HEAD + "  go: a x -> x\n" + TAIL: (6, 4, 0),
-    HEAD + "  go: b x -> y\n  come: b z -> y\n" + TAIL: (7, 8, 0),
-    HEAD + "  go: a x -> 9\n" + TAIL: (5, 4, 0),
-    HEAD + "  go: 7 0 -> 1\n" + TAIL: (5, 4, 0),
-    HEAD + TAIL.replace("  a x -> y\n", "") + "": (5, 4, 0),
-    HEAD + TAIL.replace("  b x -> z\n", ""): (3, 8, 0),
-    HEAD + TAIL.replace("seed 5\n", ""): (3, 12, 0),
-    HEAD + TAIL.replace("5", "0"): (5, 12, 0),
+MANY_VARIABLES = "variables\n" + "".join(f"  a{v}: x, y\n" for v in range(33))
+MANY_VALUES = "variables\n" + "".join(f"  v{v}: {', '.join(map(str, range(16)))}\n" for v in range(17)) + "actions\n"
+SETTERS = "".join(f"  go{v}-{q}: v{v} {(q + 1) % 16} -> {q}\n" for v in range(16) for q in range(16))
+GO = "  go: a x -> y when b = x\n"
+
+# Tables that the writer refuses: the line, the refusal, and a word of what is said.
+REFUSALS = {
+    "seed 1\n": (1, (3, 0, 0), "no variable"),
+    HEAD + GO + TAIL.replace("  b x -> z\n", ""): (8, (3, 15, 0), "no task"),
+    HEAD + GO + TAIL.replace("tasks\n", "tasks\n  b x -> y\n"): (9, (3, 19, 0), "already"),
+    MANY_VARIABLES + "seed 1\n": (34, (4, 64, 0), "too many variables"),
+    MANY_VALUES + SETTERS + "  more: v16 0 -> 1\nseed 1\n": (276, (4, 1058, 0), "too many actions"),
+    "variables\n  a: x\ntasks\n  a x -> x\nseed 1\n": (2, (5, 0, 0), "too few values"),
+    "variables\n  a: x, y\n  b: " + ", ".join(f"x{q}" for q in range(17)) + "\nseed 1\n": (3, (5, 2, 0), "or too many"),
+    HEAD + TAIL.replace("  a x -> y\n", ""): (6, (5, 4, 0), "next variable's"),
+    HEAD + TAIL.replace("  b x -> z\n", "  a y -> x\n"): (7, (5, 8, 0), "twice"),
+    HEAD + GO + TAIL.replace("5", "0"): (9, (5, 19, 0), "the seed is 0"),
+    HEAD + TAIL.replace("5", "2147483647"): (8, (5, 12, 0), "too large"),
+    HEAD + GO + "  stay: b x -> x\n" + TAIL: (6, (6, 11, 0), "are the same"),
+    HEAD + "  go: a x -> y when a = x\n" + TAIL: (5, (6, 8, 0), "own variable"),
+    HEAD + "  go: a x -> y when b = x, b = y\n" + TAIL: (5, (6, 11, 0), "same variable"),
+    HEAD + GO + "\n  back: b x -> y\n  come: b z -> y\n" + TAIL: (8, (7, 15, 0), "earlier action"),
 }
 
 PORTER_NAMES = {
@@ -196,7 +201,7 @@ def check_particulars():
 def check_mistakes(make_study):
     for text, (line, word) in MISTAKES.items():
         try:
-            make_study.study_of_table(text, "T", False)
+            make_study.study_of_table(text, "T")
             said = "nothing"
         except make_study.Mistake as mistake:
             said = str(mistake)
@@ -204,11 +209,51 @@ def check_mistakes(make_study):
         expect(told, f"a mistake on line {line}, '{word}': {said!r} is said of {text!r}")
 
 
-def check_bad_tables(make_study):
-    for text, numbers in BAD_TABLES.items():
-        data = make_study.bytes_of(make_study.study_of_table(text, "T", True))
-        given = oracle.check(data)[0]
-        expect(given == numbers, f"--allow-bad: {given} and not {numbers} for {text!r}")
+def told_of(make_study, text):
+    """What is said of a table that the writer refuses, or the bytes that it makes."""
+    try:
+        return make_study.bytes_of(make_study.study_of_table(text, "T"), "T")
+    except make_study.Mistake as mistake:
+        return str(mistake)
+
+
+def check_refusals(make_study):
+    for text, (line, numbers, word) in REFUSALS.items():
+        said = told_of(make_study, text)
+        told = str(said).startswith("T:%d: refused %d %d %d: " % (line, *numbers)) and word in said
+        expect(told, f"line {line}, refused {numbers}, '{word}': {said!r} is said of {text[-300:]!r}")
+
+
+def check_refused_lines(make_study):
+    """Of tables with a fault somewhere, the line that is told is that of the record where the oracle finds the fault."""
+    rng = random.Random(2)
+    told = 0
+    while told < 40:
+        faulty = oracle.small_study(rng)
+        oracle.give_named_fault(rng, faulty)
+        text = make_study.table_of(make_study.study_of_bytes(oracle.file_of(faulty)))
+        try:
+            study = make_study.study_of_table(text, "T")
+        except make_study.Mistake:
+            continue
+        lists = *map(bytes, make_study.lists_of(make_study.entries_of(study))), study.seed
+        numbers, _ = oracle.write(*lists, bytes(1000))
+        if numbers[0] == 0:
+            continue
+        file, before, at = oracle.file_of_lists(*lists), Counter(), 0
+        while at < numbers[1]:
+            before[file[at]] += 1
+            at = oracle.record_at(file, at)[0][4]
+        said = told_of(make_study, text)
+        line = text.splitlines().index("seed %d" % study.seed)
+        if file[at] == oracle.VARIABLE:
+            line = 1 + before[oracle.VARIABLE]
+        elif file[at] in (oracle.ACTION, oracle.CONDITION):
+            line = 2 + before[oracle.VARIABLE] + before[oracle.ACTION] - (file[at] == oracle.CONDITION)
+        elif file[at] == oracle.TASK:
+            line = study.tasks[before[oracle.TASK]].line - 1
+        expect(str(said).startswith("T:%d: refused %d %d %d: " % (line + 1, *numbers)), f"{numbers}: {said!r} of {text!r}")
+        told += 1
 
 
 def check_order(make_study):
@@ -218,32 +263,24 @@ def check_order(make_study):
     tasks = ["  a x -> y\n", "  b x -> y\n", "  c p -> q\n"]
     expected = bytes.fromhex("0102 0102 0102 02010001 030001 030201 04000001 04010001 04020001 0500000102 06")
     for order in (tasks, tasks[::-1]):
-        data = make_study.bytes_of(make_study.study_of_table(table.format("".join(order)), "T", False))
+        data = told_of(make_study, table.format("".join(order)))
         expect(data == expected, f"a table makes {data.hex()}")
 
 
 def check_shows(make_study):
-    """What --show prints makes the same bytes again; of faulty files too, where there is a table of them."""
+    """What --show prints makes the same bytes again. Of a file that does not load it prints a table too, where there is one."""
     rng = random.Random(1)
-    files = [stored(name, ".bin") for name in FIRST_LINES]
-    fine = all(
-        make_study.bytes_of(
-            make_study.study_of_table(make_study.table_of(make_study.study_of_bytes(data)), "T", False)
-        )
-        == data
-        for data in files
-    )
-    expect(fine, "--show of some study makes other bytes")
-    shown = different = 0
+    files = [stored(name, ".bin") for name in FIRST_LINES] + [oracle.file_of(oracle.small_study(rng)) for _ in range(40)]
+    for data in files:
+        same = told_of(make_study, make_study.table_of(make_study.study_of_bytes(data))) == data
+        expect(same, f"--show of {data[:100].hex()} makes other bytes")
+    shown = 0
     for _ in range(2000):
-        data = oracle.damaged_file(rng)
         try:
-            table = make_study.table_of(make_study.study_of_bytes(data))
+            shown += bool(make_study.table_of(make_study.study_of_bytes(oracle.damaged_file(rng))))
         except make_study.Mistake:
             continue
-        shown += 1
-        different += make_study.bytes_of(make_study.study_of_table(table, "T", True)) != data
-    expect(shown > 500 and not different, f"--show of {shown} damaged files: {different} make other bytes")
+    expect(shown > 500, f"--show of {shown} damaged files only")
 
 
 def check_command():
@@ -257,10 +294,13 @@ def check_command():
         expect(shown.returncode == 0 and shown.stdout.startswith(b"variables\n  v0: 0, 1\n"), "--show")
         bad.write_text(HEAD + TAIL.replace("5", "0"))
         refused = command(bad, "-o", file)
-        expect(refused.returncode != 0 and f"{bad}:8: ".encode() in refused.stderr, "a mistake is not told")
+        told = f"make-study: {bad}:8: refused 5 12 0: ".encode()
+        expect(refused.returncode == 1 and refused.stderr.startswith(told), "a refusal is not told")
+        expect(file.read_bytes() == oracle.PORTER, "a refusal alters the target")
+        bad.write_text(HEAD + "  go: a x -> z\n" + TAIL)
+        mistake = command(bad, "-o", file)
+        expect(mistake.returncode == 1 and f"{bad}:5: ".encode() in mistake.stderr, "a mistake is not told")
         expect(file.read_bytes() == oracle.PORTER, "a mistake alters the target")
-        expect(command("--allow-bad", bad, "-o", file).returncode == 0, "--allow-bad")
-        expect(oracle.check(file.read_bytes())[0] == (5, 12, 0), "--allow-bad makes another file")
         file.write_bytes(oracle.PORTER[:54])
         cut = command("--show", file)
         expect(cut.returncode != 0 and b"place 50" in cut.stderr, "--show of a cut file")
@@ -280,7 +320,7 @@ def main():
     attempt(check_folder)
     attempt(check_particulars)
     make_study = make_study_module()
-    for check in (check_mistakes, check_bad_tables, check_order, check_shows):
+    for check in (check_mistakes, check_refusals, check_refused_lines, check_order, check_shows):
         attempt(check, make_study)
     attempt(check_command)
     print(f"{passed} passed, {failed} failed")

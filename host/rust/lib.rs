@@ -56,6 +56,19 @@ mod exported {
         ) -> Answer;
         pub fn marrowkite_draw(seed: u64, count: u64, ranks: *mut u8, ranks_len: usize) -> Answer;
         pub fn marrowkite_record_at(file: *const u8, file_len: usize, at: u64) -> Record;
+        pub fn marrowkite_write(
+            variables: *const u8,
+            variables_len: usize,
+            actions: *const u8,
+            actions_len: usize,
+            conditions: *const u8,
+            conditions_len: usize,
+            tasks: *const u8,
+            tasks_len: usize,
+            seed: u32,
+            file: *mut u8,
+            file_len: usize,
+        ) -> Answer;
     }
 }
 
@@ -110,6 +123,33 @@ pub fn record_at(file: &[u8], at: u64) -> Record {
     unsafe { exported::marrowkite_record_at(file.as_ptr(), file.len(), at) }
 }
 
+/// Writes the file that lists stand for: 3 to 7, then 13. An entry has one byte in `variables`, four in `actions`, two in
+/// `conditions`, three in `tasks`. Done: the file is `file[..first]`.
+pub fn write(
+    variables: &[u8],
+    actions: &[u8],
+    conditions: &[u8],
+    tasks: &[u8],
+    seed: u32,
+    file: &mut [u8],
+) -> Answer {
+    unsafe {
+        exported::marrowkite_write(
+            variables.as_ptr(),
+            variables.len(),
+            actions.as_ptr(),
+            actions.len(),
+            conditions.as_ptr(),
+            conditions.len(),
+            tasks.as_ptr(),
+            tasks.len(),
+            seed,
+            file.as_mut_ptr(),
+            file.len(),
+        )
+    }
+}
+
 #[cfg(test)]
 mod tests {
     extern crate std;
@@ -119,6 +159,11 @@ mod tests {
         1, 2, 1, 3, 1, 2, 2, 0, 0, 1, 2, 1, 0, 1, 2, 1, 1, 2, 3, 0, 1, 3, 2, 1, 2, 2, 0, 1, 3, 0,
         1, 3, 1, 1, 2, 0, 1, 0, 4, 0, 0, 1, 4, 1, 0, 2, 4, 2, 0, 1, 5, 0, 0, 0, 1, 6,
     ];
+
+    const VARIABLES: [u8; 3] = [2, 3, 2];
+    const ACTIONS: [u8; 20] = [0, 0, 1, 0, 1, 0, 1, 0, 1, 1, 2, 2, 2, 0, 1, 2, 0, 1, 0, 0];
+    const CONDITIONS: [u8; 8] = [0, 1, 2, 1, 0, 1, 1, 1];
+    const TASKS: [u8; 9] = [0, 0, 1, 1, 0, 2, 2, 0, 1];
 
     fn answer(number: u64, first: u64, second: u64) -> Answer {
         Answer {
@@ -157,6 +202,14 @@ mod tests {
         assert_eq!(plan_seeded(&PORTER[..55], &mut buffer), answer(1, 55, 0));
         assert_eq!(run(&PORTER, &[], &mut buffer), answer(17, 0, 0));
         assert_eq!(draw(0, 3, &mut buffer), answer(18, 0, 0));
+        assert_eq!(
+            write(&VARIABLES, &ACTIONS, &CONDITIONS, &TASKS, 0, &mut buffer),
+            answer(5, 50, 0)
+        );
+        assert_eq!(
+            write(&VARIABLES, &ACTIONS, &CONDITIONS, &TASKS, 1, &mut buffer),
+            answer(13, 56, 0)
+        );
         assert_eq!(buffer, [0xaa; 3]);
     }
 
@@ -165,6 +218,30 @@ mod tests {
         assert_eq!(check(&[]), answer(1, 0, 0));
         assert_eq!(plan(&PORTER, &[], &mut []), answer(9, 0, 1));
         assert_eq!(draw(7, 0, &mut []), answer(0, 7, 0));
+        assert_eq!(write(&[], &[], &[], &[], 1, &mut []), answer(3, 0, 0));
+    }
+
+    #[test]
+    fn the_porter_is_written() {
+        let mut file = [0xaa; 58];
+        assert_eq!(
+            write(&VARIABLES, &ACTIONS, &CONDITIONS, &TASKS, 1, &mut file),
+            answer(0, 56, 0)
+        );
+        assert_eq!(file[..56], PORTER);
+        assert_eq!(file[56..], [0xaa; 2]);
+    }
+
+    #[test]
+    fn nothing_that_is_lent_is_passed_over() {
+        let mut file = [0xaa; 64];
+        let cut_task = write(&VARIABLES, &ACTIONS, &CONDITIONS, &TASKS[..8], 1, &mut file);
+        assert_eq!(cut_task, answer(5, 46, 0));
+        let missing = write(&VARIABLES, &ACTIONS, &CONDITIONS[..6], &TASKS, 1, &mut file);
+        assert_eq!(missing, answer(5, 31, 0));
+        let left_over = write(&VARIABLES, &ACTIONS[..16], &[0; 10], &TASKS, 1, &mut file);
+        assert_eq!(left_over.number, 6);
+        assert_eq!(file, [0xaa; 64]);
     }
 
     #[test]

@@ -1,10 +1,12 @@
-"""The library against the oracle: every number and every byte of at least 20,000 calls.
+"""The library against the oracle: every number and every byte of at least 24,000 calls.
 
     python3 tests/host/differential.py [--seed N] [--calls N] COMMAND...
 
 COMMAND starts tests/host/serve.c. The calls are those of tests/oracle.py: its worked cases, then calls from a seed, which
-is drawn anew for each run (or given, also by MARROWKITE_SEED) and printed. A run goes on until each answer that each call
-can give was met, for at most twice as many calls. Each call's stack is held to the limit that include/marrowkite.h names.
+is drawn anew for each run (or given, also by MARROWKITE_SEED) and printed, then a fifth as many writes. A run goes on until
+each answer that each call can give was met, for at most twice as many calls. Each file that loads is read by the oracle and
+written back by the library, which has to give the same bytes. Each call's stack is held to the limit that
+include/marrowkite.h names.
 The last line is 'N passed, M failed': calls that agree, calls that do not and answers that were never met.
 """
 
@@ -24,7 +26,7 @@ ROOT = Path(__file__).resolve().parents[2]
 sys.path.insert(0, str(ROOT / "tests"))
 import oracle  # noqa: E402
 
-NAMES = ["record_at", "check", "plan", "plan_seeded", "run", "draw"]  # in the order of serve.c
+NAMES = ["record_at", "check", "plan", "plan_seeded", "run", "draw", "write"]  # in the order of serve.c
 FILE_FAULTS = set(range(1, 9))
 CAN_ANSWER = {
     "record_at": {0, 1, 2},
@@ -33,21 +35,23 @@ CAN_ANSWER = {
     "plan_seeded": {0, 10, 11, 12, 13} | FILE_FAULTS,
     "run": {0, 13, 14, 15, 16, 17} | FILE_FAULTS,
     "draw": {0, 13, 18, 19},
+    "write": {0, 3, 4, 5, 6, 7, 13},
 }
 SHOWN = 5
 
 
 def parts(name, inputs):
-    """A call as serve.c takes it: two numbers, file, list, buffer."""
+    """A call as serve.c takes it: two numbers, the four slices that are read, the buffer."""
     if name == "record_at":
-        return inputs[1], 0, inputs[0], b"", b""
+        return (inputs[1], 0), (inputs[0], b"", b"", b""), b""
     if name == "check":
-        return 0, 0, inputs[0], b"", b""
-    if name == "plan_seeded":
-        return 0, 0, inputs[0], b"", inputs[1]
+        return (0, 0), (inputs[0], b"", b"", b""), b""
     if name == "draw":
-        return inputs[0], inputs[1], b"", b"", inputs[2]
-    return 0, 0, *inputs
+        return inputs[:2], (b"", b"", b"", b""), inputs[2]
+    if name == "write":
+        return (inputs[4], 0), inputs[:4], inputs[5]
+    *read, buffer = inputs
+    return (0, 0), (*read, b"", b"", b"")[:4], buffer
 
 
 class Library:
@@ -64,9 +68,9 @@ class Library:
 
     def call(self, name, inputs):
         """The numbers, the buffer afterwards, whether guard bytes and inputs are whole, and the bytes of stack used."""
-        one, two, file, steps, buffer = parts(name, inputs)
-        head = struct.pack("<6Q", NAMES.index(name), one, two, len(file), len(steps), len(buffer))
-        self.process.stdin.write(head + file + steps + buffer)
+        numbers, read, buffer = parts(name, inputs)
+        head = struct.pack("<8Q", NAMES.index(name), *numbers, *map(len, read), len(buffer))
+        self.process.stdin.write(head + b"".join(read) + buffer)
         self.process.stdin.flush()
         *numbers, whole, stack = struct.unpack("<7Q", self.read(56))
         used = 5 if name == "record_at" else 3
@@ -86,21 +90,36 @@ def stack_limits():
 
 
 def all_calls(seed, n, seen):
-    """The worked cases; n calls; as many more as it takes to meet every answer, but at most n."""
-    yield from ((name, inputs) for _, name, inputs, *_ in oracle.worked_cases())
-    for index, call in enumerate(oracle.calls(seed, 2 * n)):
-        if index >= n and not unmet(seen):
-            return
-        yield call
+    """The worked cases; n calls and a fifth as many writes; as many more as it takes to meet every answer, but at most as many
+    again. Each with what it has to answer; behind each call on a file that loads, the write of what the file says."""
+    worked = [(name, inputs) for _, name, inputs, *_ in oracle.worked_cases()]
+    worked += [("write", oracle.inputs_of_worked_write(lists, length)) for lists, length, _ in oracle.worked_writes()]
+    for name, inputs in worked:
+        yield name, inputs, oracle.answer(name, inputs)
+    for some, calls, names in (n, oracle.calls, NAMES[:-1]), (n // 5, oracle.writes, NAMES[-1:]):
+        for index, (name, inputs) in enumerate(calls(seed, 2 * some)):
+            if index >= some and not unmet(seen, names):
+                break
+            yield name, inputs, oracle.answer(name, inputs)
+            if name in ("check", "plan", "plan_seeded", "run"):
+                yield from written_back(inputs[0])
 
 
-def unmet(seen):
-    return [(name, number) for name in NAMES for number in sorted(CAN_ANSWER[name]) if not seen[name, number]]
+def written_back(file):
+    """The write of what a file says, if it loads: it has to give the same bytes."""
+    try:
+        study = oracle.read(file)
+    except oracle.Refused:
+        return
+    yield "write", (*oracle.lists_of(study), b"\xaa" * len(file)), ((0, len(file), 0), file)
 
 
-def differences(name, inputs, library, limits):
+def unmet(seen, names):
+    return [(name, number) for name in names for number in sorted(CAN_ANSWER[name]) if not seen[name, number]]
+
+
+def differences(name, inputs, expected, library, limits):
     """What is wrong with a call; the numbers that the library gave and the bytes of stack that it used."""
-    expected = oracle.answer(name, inputs)
     numbers, buffer, whole, stack = library.call(name, inputs)
     wrong = []
     if numbers != expected[0]:
@@ -122,9 +141,9 @@ def compare(seed, n, command):
     """Prints what was found; how many agree and how many do not."""
     library, limits = Library(command), stack_limits()
     seen, stacks, faults, agreed, longest_file, longest_plan = Counter(), Counter(), [], 0, 0, 0
-    for name, inputs in all_calls(seed, n, seen):
+    for name, inputs, expected in all_calls(seed, n, seen):
         try:
-            wrong, numbers, stack = differences(name, inputs, library, limits)
+            wrong, numbers, stack = differences(name, inputs, expected, library, limits)
         except (EOFError, BrokenPipeError):
             faults.append((shown(name, inputs), ["the host died in this call"]))
             break
@@ -145,7 +164,7 @@ def compare(seed, n, command):
     for call, wrong in sorted(faults, key=lambda fault: len(fault[0]))[:SHOWN]:
         print("differs:", call, *wrong, sep="\n    ")
     if n >= 20000:
-        faults += [(f"{name} never answered {number}", []) for name, number in unmet(seen)]
+        faults += [(f"{name} never answered {number}", []) for name, number in unmet(seen, NAMES)]
     return agreed, len(faults)
 
 

@@ -1,10 +1,10 @@
 /* Makes the calls that it reads, one after another, until the input ends; tests/host/differential.py drives it.
  *
- * A call is six numbers of eight bytes, least significant first: which call (the place in `enum` below), two numbers
- * (the place; or the seed and the count; else 0), the lengths of the file, of the list (ranks or plan) and of the
- * buffer; then the bytes of these three.
+ * A call is eight numbers of eight bytes, least significant first: which call (the place in `enum` below), two numbers
+ * (the place; or the seed and the count; or the seed; else 0), the lengths of the four slices that are read (the file and
+ * the ranks or plan; or variables, actions, conditions and tasks; else 0) and of the buffer; then the bytes of these five.
  * An answer is the call's three or five numbers (five are written, the rest 0), then 1 if all guard bytes are whole and
- * file and list are as they were, else 0, then how many bytes of stack were used; then the buffer.
+ * what was lent to be read is as it was, else 0, then how many bytes of stack were used; then the buffer.
  *
  * Each call runs on a stack of its own, painted anew: what it used is what is no longer paint below the caller's frame,
  * and what it might read there before it has written it is not what the last call left. */
@@ -14,10 +14,11 @@ long read(int from, void *to, size_t len);
 long write(int to, const void *from, size_t len);
 void exit(int status) __attribute__((noreturn));
 
-enum { RECORD_AT, CHECK, PLAN, PLAN_SEEDED, RUN, DRAW };
+enum { RECORD_AT, CHECK, PLAN, PLAN_SEEDED, RUN, DRAW, WRITE };
+enum { READ = 4 };
 
 typedef struct {
-  uint64_t which, one, two, file_len, list_len, buffer_len;
+  uint64_t which, one, two, read_len[READ], buffer_len;
 } call;
 
 typedef struct {
@@ -26,12 +27,13 @@ typedef struct {
 
 static call c;
 static answer a;
-static lent file, list, buffer;
+static lent in[READ], buffer;
 static uint8_t *frame_end;
 
 static void make_call(void) {
   __asm__ volatile("movq %%rsp, %0" : "=m"(frame_end));
   marrowkite_answer r = {0, 0, 0};
+  lent file = in[0], list = in[1];
   if (c.which == RECORD_AT) {
     marrowkite_record found = marrowkite_record_at(file.at, file.len, c.one);
     memcpy(a.numbers, &found, sizeof found);
@@ -42,6 +44,9 @@ static void make_call(void) {
   if (c.which == PLAN_SEEDED) r = marrowkite_plan_seeded(file.at, file.len, buffer.at, buffer.len);
   if (c.which == RUN) r = marrowkite_run(file.at, file.len, list.at, list.len, buffer.at, buffer.len);
   if (c.which == DRAW) r = marrowkite_draw(c.one, c.two, buffer.at, buffer.len);
+  if (c.which == WRITE)
+    r = marrowkite_write(in[0].at, in[0].len, in[1].at, in[1].len, in[2].at, in[2].len, in[3].at, in[3].len,
+                         (uint32_t)c.one, buffer.at, buffer.len);
   memcpy(a.numbers, &r, sizeof r);
 }
 
@@ -81,20 +86,21 @@ static void write_all(const void *from, size_t len) {
 int main(void) {
   for (;;) {
     read_all(&c, sizeof c, 1);
-    size_t len = c.file_len + c.list_len + c.buffer_len;
-    uint8_t *given = malloc(len + 1);
+    size_t len = c.buffer_len;
+    for (int i = 0; i < READ; i++) len += c.read_len[i];
+    uint8_t *given = malloc(len + 1), *at = given;
     read_all(given, len, 0);
-    bytes given_file = {given, c.file_len}, given_list = {given + c.file_len, c.list_len};
-    file = lend(given_file);
-    list = lend(given_list);
-    buffer = lend((bytes){given + c.file_len + c.list_len, c.buffer_len});
+    for (int i = 0; i < READ; at += c.read_len[i++]) in[i] = lend((bytes){at, c.read_len[i]});
+    buffer = lend((bytes){at, c.buffer_len});
     memset(&a, 0, sizeof a);
     a.stack = on_painted_stack(make_call);
-    a.whole = unaltered(file, given_file) && unaltered(list, given_list) && guarded(buffer);
+    a.whole = (uint64_t)guarded(buffer);
+    at = given;
+    for (int i = 0; i < READ; at += c.read_len[i++])
+      if (!unaltered(in[i], (bytes){at, c.read_len[i]})) a.whole = 0;
     write_all(&a, sizeof a);
     write_all(buffer.at, buffer.len);
-    free(file.block);
-    free(list.block);
+    for (int i = 0; i < READ; i++) free(in[i].block);
     free(buffer.block);
     free(given);
   }

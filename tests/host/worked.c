@@ -1,5 +1,5 @@
 /* Document 01's seventeen worked cases through the exported calls, one line each, and what the cases leave open: calls one
- * after another, calls on several threads, single records, the generator's check number.
+ * after another, calls on several threads, single records, the generator's check number, files from lists.
  * Every buffer is lent between guard bytes. Each check below looks at all numbers, all bytes of the buffer, the inputs and
  * the guard bytes; a refused call has to leave the buffer as it was. */
 #include "lend.h"
@@ -118,6 +118,18 @@ static int run(bytes file, bytes steps, size_t room, marrowkite_answer wanted, b
   lent f = lend(file), s = lend(steps), buffer = lend_room(room);
   return same(marrowkite_run(f.at, f.len, s.at, s.len, buffer.at, buffer.len), wanted) & kept(f, file) &
          kept(s, steps) & holds_only(buffer, left);
+}
+
+/* The porter's lists but for the tasks, in which the cart is to end at some value. */
+#define PORTER_LISTS                                                                                                    \
+  BYTES(2, 3, 2), BYTES(0, 0, 1, 0, 1, 0, 1, 0, 1, 1, 2, 2, 2, 0, 1, 2, 0, 1, 0, 0), BYTES(0, 1, 2, 1, 0, 1, 1, 1)
+#define TASKS(goal) BYTES(0, 0, 1, 1, 0, goal, 2, 0, 1)
+
+static int write_lists(bytes variables, bytes actions, bytes conditions, bytes tasks, uint32_t seed, size_t room,
+                       marrowkite_answer wanted, bytes left) {
+  lent v = lend(variables), a = lend(actions), c = lend(conditions), t = lend(tasks), buffer = lend_room(room);
+  return same(marrowkite_write(v.at, v.len, a.at, a.len, c.at, c.len, t.at, t.len, seed, buffer.at, buffer.len), wanted) &
+         kept(v, variables) & kept(a, actions) & kept(c, conditions) & kept(t, tasks) & holds_only(buffer, left);
 }
 
 static int draw(uint64_t seed, uint64_t count, size_t room, marrowkite_answer wanted, bytes left) {
@@ -254,6 +266,13 @@ int main(void) {
   report("case 17, draws at the edges", draw(2147483646, 1, 8, DONE(2147483646, 0), BYTES(0)) &
                                             draw(2147483647, 1, 8, REFUSED(18, 2147483647, 0)) & draw_of_256() &
                                             draw(1, 257, ROOM, REFUSED(19, 257, 0)));
+  report("files from lists", write_lists(PORTER_LISTS, TASKS(2), 1, 60, DONE(56, 0), porter) &
+                                 write_lists(PORTER_LISTS, TASKS(2), 1, 56, DONE(56, 0), porter) &
+                                 write_lists(PORTER_LISTS, TASKS(2), 1, 55, REFUSED(13, 56, 0)) &
+                                 write_lists(PORTER_LISTS, TASKS(2), 0, 60, REFUSED(5, 50, 0)) &
+                                 write_lists(PORTER_LISTS, TASKS(3), 1, 60, REFUSED(5, 42, 0)) &
+                                 write_lists(PORTER_LISTS, NOTHING, 1, 60, REFUSED(3, 38, 0)) &
+                                 write_lists(NOTHING, NOTHING, NOTHING, NOTHING, 1, 60, REFUSED(3, 0, 0)));
   report("single records", record_at(PORTER, 18, (marrowkite_record){0, 3, 19, 2, 21}) &
                                record_at(PORTER, 55, (marrowkite_record){0, 6, 56, 0, 56}) &
                                record_at(PORTER, 0, (marrowkite_record){0, 1, 1, 1, 2}) &

@@ -4,10 +4,14 @@
 //     seeded ROOM            plan with the file's seed
 //     run ROOM LIST
 //     draw ROOM SEED COUNT
+//     write ROOM SEED V A C T   a file from lists, which are the file's bytes: V of variables, then A of actions, C of
+//                               conditions, T of tasks
 use crate::show;
 use crate::words::bytes;
 use crate::words::front;
 use crate::words::number;
+use crate::words::rest;
+use answer::Answer;
 ghost use Prim.Native.Nat.{_≤_};
 ghost use lib.ListN.{length};
 
@@ -19,6 +23,8 @@ const SEEDED: u64 = 0x736565646564;
 const RUN: u64 = 0x72756e;
 
 const DRAW: u64 = 0x64726177;
+
+const WRITE: u64 = 0x7772697465;
 
 // Makes the call of this word, if it is one of these, and answers whether it is.
 pub(crate) fn lend(word: u64, line: &[u8], file: &[u8], buffer: &mut [u8]) -> bool {
@@ -58,7 +64,22 @@ fn call(word: u64, line: &[u8], file: &[u8], list: &[u8], room: &mut [u8]) -> bo
         SEEDED => show::answers(planner::plan_seeded(file, room)),
         RUN => show::answers(running::run(file, list, room)),
         DRAW => show::answers(draw::draw(number(line, 2), number(line, 3), room)),
+        WRITE => show::answers(write(line, file, room)),
         _ => return false,
     }
     true
+}
+
+fn write(line: &[u8], file: &[u8], room: &mut [u8]) -> Answer {
+    let actions = rest(file, number(line, 3) as usize);
+    let conditions = rest(actions, number(line, 4) as usize);
+    let tasks = rest(conditions, number(line, 5) as usize);
+    writer::write(
+        front(file, number(line, 3) as usize),
+        front(actions, number(line, 4) as usize),
+        front(conditions, number(line, 5) as usize),
+        front(tasks, number(line, 6) as usize),
+        (number(line, 2) % 4294967296) as u32,
+        room,
+    )
 }

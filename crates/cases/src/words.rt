@@ -93,3 +93,11 @@ pub(crate) fn front(s: &[u8], n: usize) -> &[u8] {
     }
     &s[0..n]
 }
+
+// What follows the front.
+pub(crate) fn rest(s: &[u8], n: usize) -> &[u8] {
+    if s.len() < n {
+        return &s[0..0];
+    }
+    &s[n..s.len()]
+}

@@ -8,6 +8,8 @@ use lib.ListN.{length}
 use Rattle.answer.specs.declared.Answer.{Answer}
 use Rattle.answer.specs.Answers.{done}
 use Rattle.answer.specs.Allowing.{Exactly, RefusalAltersNothing}
+use Rattle.spelling.specs.Write.{WriteAllows}
+use Rattle.spelling.proofs.Settled.{write-unaltered}
 use Rattle.study.specs.Reading.{Said, says, refused, reading}
 use Rattle.draw.specs.Draw.{drawnLast, answerBy, bytesBy, DrawAllows}
 use Rattle.draw.specs.Draw.{refused as notDrawn}
@@ -43,3 +45,8 @@ refused-run-alters-nothing file list before = run-unaltered (ran (reading file) 
 
 pub refused-draw-alters-nothing : (seed count : ℕ) (before : List ℕ) → RefusalAltersNothing (DrawAllows seed count before) before
 refused-draw-alters-nothing seed count before = draw-unaltered (notDrawn seed count (length before)) (drawnLast seed count) _ before
+
+pub refused-write-alters-nothing :
+    (variables actions conditions tasks : List ℕ) (seed : ℕ) (before : List ℕ)
+    → RefusalAltersNothing (WriteAllows variables actions conditions tasks seed before) before
+refused-write-alters-nothing = write-unaltered

@@ -128,6 +128,31 @@ pub fn enter_many(i: usize, many: u8, acts: &mut [[u8; 6]; 256])
     acts[i] = [row[0], row[1], row[2], many, row[4], row[5]];
 }
 
+// Judges a condition: its fault, or where the reading stands after it.
+pub fn judge_condition(p: Progress, v: u8, q: u8, next: usize, rows: &[[u8; 3]; 32]) -> Step
+    requires { ⌜ (p .vars ≤ 32) × (p .many ≤ 32) ⌝ }
+    ensures { λ r. ⌜ r ≡ unlessFault (conditionFault (countColumn (now (rows .entry))) (p .vars) (p .own) (p .above) v q) p (afterCondition p v next) ⌝ }
+{
+    let fault = faults::condition_fault(rows, p.vars, p.own, p.above, v, q);
+    if fault != 0 {
+        return Step::Refused {
+            number: fault,
+            place: p.at,
+        };
+    }
+    Step::On(Progress {
+        at: next,
+        vars: p.vars,
+        actions: p.actions,
+        tasks: p.tasks,
+        last: 3,
+        own: p.own,
+        above: v + 1,
+        many: p.many + 1,
+        seed: p.seed,
+    })
+}
+
 pub fn on_condition(
     p: Progress,
     v: u8,
@@ -141,24 +166,45 @@ pub fn on_condition(
     ensures { λ r. ⌜ ((setters : List ℕ) → seen setters (now (acts .exit))
         ≡ storedMany (conditionFault (countColumn (now (rows .entry))) (p .vars) (p .own) (p .above) v q) (seen setters (now (acts .entry))) (p .actions - 1) (p .many + 1)) ⌝ }
 {
-    let fault = faults::condition_fault(rows, p.vars, p.own, p.above, v, q);
+    let step = judge_condition(p, v, q, next, rows);
+    let Step::On(after) = step else {
+        return step;
+    };
+    enter_many(p.actions - 1, after.many, acts);
+    step
+}
+
+// Judges an action: its fault, or its mark and where the reading stands after it.
+pub fn judge_action(
+    p: Progress,
+    v: u8,
+    pre: u8,
+    post: u8,
+    next: usize,
+    rows: &[[u8; 3]; 32],
+    marks: &mut [u8; 512],
+) -> Step
+    requires { ⌜ (p .vars ≤ 32) × ((k : ℕ) → k < p .vars → getD (countColumn (now rows)) k 0 ≤ 16) ⌝ }
+    ensures { λ r. ⌜ r ≡ unlessFault (actionFault (countColumn (now (rows .entry))) (now (marks .entry)) (p .vars) (p .actions) v pre post) p (afterAction p v next) ⌝ }
+    ensures { λ r. ⌜ now (marks .exit) ≡ stored (actionFault (countColumn (now (rows .entry))) (now (marks .entry)) (p .vars) (p .actions) v pre post) (now (marks .entry)) (16 * v + post) 1 ⌝ }
+{
+    let fault = faults::action_fault(rows, marks, p.vars, p.actions, v, pre, post);
     if fault != 0 {
         return Step::Refused {
             number: fault,
             place: p.at,
         };
     }
-    let many = p.many + 1;
-    enter_many(p.actions - 1, many, acts);
+    marks[16 * (v as usize) + (post as usize)] = 1;
     Step::On(Progress {
         at: next,
         vars: p.vars,
-        actions: p.actions,
+        actions: p.actions + 1,
         tasks: p.tasks,
-        last: 3,
-        own: p.own,
-        above: v + 1,
-        many: many,
+        last: 2,
+        own: v,
+        above: 0,
+        many: 0,
         seed: p.seed,
     })
 }
@@ -181,17 +227,12 @@ pub fn on_action(
         (seen (now (setters .entry)) (now (acts .entry))))
         × (now (marks .exit) ≡ stored (actionFault (countColumn (now (rows .entry))) (now (marks .entry)) (p .vars) (p .actions) v pre post) (now (marks .entry)) (16 * v + post) 1) ⌝ }
 {
+    let step = judge_action(p, v, pre, post, next, rows, marks);
+    let Step::On(_) = step else {
+        return step;
+    };
     let i = p.actions;
-    let fault = faults::action_fault(rows, marks, p.vars, i, v, pre, post);
-    if fault != 0 {
-        return Step::Refused {
-            number: fault,
-            place: p.at,
-        };
-    }
-    let k = 16 * (v as usize) + (post as usize);
-    marks[k] = 1;
-    setters[k] = i as u8;
+    setters[16 * (v as usize) + (post as usize)] = i as u8;
     acts[i] = [
         v,
         pre,
@@ -200,15 +241,5 @@ pub fn on_action(
         (next % 256) as u8,
         (next / 256 % 256) as u8,
     ];
-    Step::On(Progress {
-        at: next,
-        vars: p.vars,
-        actions: i + 1,
-        tasks: p.tasks,
-        last: 2,
-        own: v,
-        above: 0,
-        many: 0,
-        seed: p.seed,
-    })
+    step
 }

@@ -1,27 +1,20 @@
 -- A run of conditions: each that is there and has no fault is taken, and leads on.
 -- Assumes nothing.
 use mathlib.Core.Path.{_≡_, sym}
-use mathlib.Core.Bool.{Bool, true}
 use mathlib.Core.List.{List}
 use Prim.Native.Nat.{ℕ, _+_, _-_, _≤_}
 use lib.ListN.{getD, set}
 use lib.Seq.{set-set, set-getD}
-use borrow.Author.Tests.{le-leb}
 use Rattle.records.specs.Records.{recordAt}
 use Rattle.records.specs.declared.Found.the-variants.{There}
-use Rattle.study.specs.Reading.{mayFollow}
 use Rattle.tables.specs.Tables.{ActionTables, tables}
 use Rattle.judging.specs.Faults.{conditionFault}
 use Rattle.entering.specs.declared.Progress.{Progress}
 use Rattle.entering.specs.Steps.{withMany, afterCondition}
 use Rattle.pacing.specs.Reads.{Safe}
 use Rattle.loader.specs.Halfway.{Halfway}
-use Rattle.pacing.proofs.Arms.{condition-arm}
+use Rattle.pacing.proofs.Arms.{may-condition, condition-arm}
 use Rattle.loader.proofs.Pass.{goes-on}
-
-may-condition : (left : Bool) {last : ℕ} → 2 ≤ last → last ≤ 3 → mayFollow left last 3 ≡ true
-unfolding mayFollow
-may-condition left {last} l h = rw (le-leb 2 last l, le-leb last 3 h)
 
 -- the conditions of the last action: the tables are told of with their number entered, though it is entered only after the last of them
 abbrev pub Entered : ActionTables → Progress → ActionTables

@@ -5,6 +5,7 @@ ghost use Rattle.draw.specs.Draw.{DrawAllows};
 ghost use Rattle.runs.specs.Run.{RunAllows};
 ghost use Rattle.planning.specs.Planning.{PlanAllows};
 ghost use Rattle.planning.specs.Seeded.{SeededAllows};
+ghost use Rattle.spelling.specs.Write.{WriteAllows};
 ghost use Rattle.marrowkite.specs.Told.{RecordAllows};
 use answer::Answer;
 use records::Found;
@@ -84,4 +85,19 @@ pub extern "C" fn marrowkite_draw(seed: u64, count: u64, ranks: &mut [u8]) -> An
     ensures { λ r. ⌜ DrawAllows seed count (now (ranks .entry)) r (now (ranks .exit)) ⌝ }
 {
     draw::draw(seed, count, ranks)
+}
+
+#[no_mangle]
+pub extern "C" fn marrowkite_write(
+    variables: &[u8],
+    actions: &[u8],
+    conditions: &[u8],
+    tasks: &[u8],
+    seed: u32,
+    file: &mut [u8],
+) -> Answer
+    ensures { λ r. ⌜ WriteAllows (now (variables .entry)) (now (actions .entry)) (now (conditions .entry)) (now (tasks .entry)) seed
+        (now (file .entry)) r (now (file .exit)) ⌝ }
+{
+    writer::write(variables, actions, conditions, tasks, seed, file)
 }

@@ -1,14 +1,14 @@
 -- Each kind of record, taken: the step answers to the verdict, and stays safe.
 -- Assumes nothing.
 use mathlib.Core.Path.{_≡_, refl, sym, ap, subst, _∙_}
-use mathlib.Core.Bool.{Bool, true, false}
+use mathlib.Core.Bool.{Bool, true, false, _&&_, and-eq-true-iff}
 use mathlib.Core.Logic.{inl, inr}
 use mathlib.Core.List.{List, [], _∷_}
 use Prim.Native.Nat.{ℕ, zero, suc, _+_, _-_, _*_, _≤_, _<_}
 use native.Mathlib.Omega.{arith}
-use lib.Dec.{eqb, ltb, eqb·suc-zero}
+use lib.Dec.{leb, eqb, ltb, eqb·suc-zero}
 use lib.ListN.{length, getD, set}
-use borrow.Author.Tests.{ltb-true, ltb-false}
+use borrow.Author.Tests.{le-leb, leb-true, ltb-true, ltb-false}
 use types.Run.{OneOf}
 use denote.Enum.Declared.{tagOf}
 use Rattle.plain.specs.Choose.{pick}
@@ -26,7 +26,7 @@ use Rattle.entering.specs.declared.Step.the-variants.{Refused, Done}
 use Rattle.tables.specs.Tables.{Tables, tables, actionTables, HoldsTasks}
 use Rattle.judging.specs.Faults.{variableFault, actionFault, conditionFault, taskFault, seedFault}
 use Rattle.entering.specs.Steps.{unlessFault, stored, storedAction, storedMany, afterVariable, afterAction, afterCondition, afterTask, afterSeed}
-use Rattle.pacing.specs.Reads.{Safe, Stands, Further, Meets, seedOf, afterEnd, notThere}
+use Rattle.pacing.specs.Reads.{Safe, Knows, Stands, Further, Meets, seedOf, afterEnd, notThere}
 use Rattle.pacing.proofs.Told.{variable-fault-is, action-fault-is, condition-fault-is, task-fault-is, seed-fault-is}
 use Rattle.pacing.proofs.Entered.{variable-entered, action-entered, condition-entered, task-entered, seed-entered}
 use Rattle.pacing.proofs.Kept.{variable-kept, action-kept, condition-kept, task-kept, seed-kept}
@@ -35,8 +35,8 @@ use Rattle.pacing.proofs.Kept.{variable-kept, action-kept, condition-ke
 abbrev pub Answers : List ℕ → Progress → Tables → List ℕ → Tables → List ℕ → Step → Type 0
 Answers file p t m t′ m′ r = Further file (p .at) (t′ .counts) r × ((d : Draft) → Stands file p t m d → Meets file (verdictAt file (p .at) d) t′ m′ r)
 
-pub allowed-is : {file : List ℕ} {p : Progress} {t : Tables} {m : List ℕ} {d : Draft} → Stands file p t m d → (kind : ℕ) → allowed d kind ≡ mayFollow (ltb (p .tasks) (p .vars)) (p .last) kind
-allowed-is stands kind = rw (stands .tasks .count, stands .counts .count, stands .last)
+pub allowed-is : {p : Progress} {counts m : List ℕ} {d : Draft} → Knows p counts m d → (kind : ℕ) → allowed d kind ≡ mayFollow (ltb (p .tasks) (p .vars)) (p .last) kind
+allowed-is knows kind = rw (knows .tasks, knows .counts .count, knows .last)
 
 -- the body of a record of a given kind lies inside the file
 pub body-inside : (file : List ℕ) (at : ℕ) {kind start next : ℕ} → recordAt file at ≡ There kind start next → (k : ℕ) → kind ≡ k → start + bodyLength k ≤ length file
@@ -49,6 +49,15 @@ where-it-ends file at {kind} {start} {next} there =
     let l = there-lies file at there in
     let e : next ≡ start + bodyLength kind = omega (arith, l .starts, l .goes-on) in
     rw e at there
+
+pub may-condition : (left : Bool) {last : ℕ} → 2 ≤ last → last ≤ 3 → mayFollow left last 3 ≡ true
+unfolding mayFollow
+may-condition left {last} l h = rw (le-leb 2 last l, le-leb last 3 h)
+
+-- a task comes after no seed
+task-last : (left : Bool) (last : ℕ) → mayFollow left last 4 ≡ true → last ≤ 4
+unfolding mayFollow
+task-last left last may = leb-true last 4 (and-eq-true-iff (leb last 4) left .0 (and-eq-true-iff (leb 1 last) (leb last 4 && left) .0 may .1) .0)
 
 further-unless :
     (file : List ℕ) (counts : Bool → List ℕ) (p after : Progress) (f : ℕ)
@@ -73,11 +82,11 @@ module _ (file : List ℕ) (p : Progress) (start next : ℕ) (t : Tables) (m : L
   action-place there may =
       let l = there-lies file (p .at) there in
       let k = may-follow (ltb (p .tasks) (p .vars)) (p .last) 2 0 0 0 0 may in
-      omega (arith, safe .short (k .2))
+      omega (arith, safe .bounds .short (omega arith))
 
   pub condition-action : mayFollow (ltb (p .tasks) (p .vars)) (p .last) 3 ≡ true → 1 ≤ p .actions
   unfolding decoded
-  condition-action may = let k = may-follow (ltb (p .tasks) (p .vars)) (p .last) 3 0 0 0 0 may in safe .some-action (k .1) (k .2)
+  condition-action may = let k = may-follow (ltb (p .tasks) (p .vars)) (p .last) 3 0 0 0 0 may in safe .bounds .some-action (k .1) (k .2)
 
   pub variable-arm :
       recordAt file (p .at) ≡ There 1 start next
@@ -92,11 +101,11 @@ module _ (file : List ℕ) (p : Progress) (start next : ℕ) (t : Tables) (m : L
       let k = may-follow (ltb (p .tasks) (p .vars)) (p .last) 1 0 0 0 0 may in
       let f = variableFault (p .vars) n in (
         further-unless file (λ b. pick b (set (t .counts) (p .vars) n) (t .counts)) p (afterVariable p next) f
-            (λ z. (omega arith, variable-kept safe next (l .whole) n z (k .1) (omega arith))),
+            (λ z. (omega arith, record { inside = l .whole; bounds = variable-kept (safe .bounds) next n z (k .1) (omega arith) })),
         λ d s. meets-unless file (λ b. tables (pick b (set (t .counts) (p .vars) n) (t .counts)) (t .acts) (t .starts) (t .goals)) (λ b. m) p (afterVariable p next)
             (record { study = with (d .study) (variable n); last = 1 }) f
-            (rw (variable-fault-is s n, en) (verdict-allowed file (p .at) d there (allowed-is s 1 ∙ may)))
-            (λ z. variable-entered s next n (sym (variable-fault-is s n) ∙ z)),
+            (rw (variable-fault-is (s .knows) n, en) (verdict-allowed file (p .at) d there (allowed-is (s .knows) 1 ∙ may)))
+            (λ z. variable-entered s next n (sym (variable-fault-is (s .knows) n) ∙ z)),
       )
 
   pub action-arm :
@@ -111,7 +120,7 @@ module _ (file : List ℕ) (p : Progress) (start next : ℕ) (t : Tables) (m : L
       let k = may-follow (ltb (p .tasks) (p .vars)) (p .last) 2 0 0 0 0 may in
       let a = t .acts in (
         further-unless file (λ b. t .counts) p (afterAction p v next) f
-            (λ z. (omega arith, action-kept safe next (l .whole) m v x y (sym ef ∙ z) (k .2) (omega arith))),
+            (λ z. (omega arith, record { inside = l .whole; bounds = action-kept (safe .bounds) next m v x y (sym ef ∙ z) (k .2) (omega arith) })),
         λ d s. meets-unless file
             (λ b. tables (t .counts)
             (actionTables (pick b (set (a .setters) (16 * v + y) (p .actions)) (a .setters)) (pick b (set (a .vars) (p .actions) v) (a .vars)) (pick b (set (a .pres) (p .actions) x) (a .pres))
@@ -119,8 +128,8 @@ module _ (file : List ℕ) (p : Progress) (start next : ℕ) (t : Tables) (m : L
             (t .starts) (t .goals))
             (λ b. pick b (set m (16 * v + y) 1) m)
             p (afterAction p v next) (record { study = with (d .study) (action v x y); last = 2 }) f
-            (rw (ef ∙ action-fault-is s v x y, ev, ex, ey) (verdict-allowed file (p .at) d there (allowed-is s 2 ∙ may)))
-            (λ z. action-entered s next v x y (sym (action-fault-is s v x y) ∙ (sym ef ∙ z)) (l .whole)),
+            (rw (ef ∙ action-fault-is (s .knows) v x y, ev, ex, ey) (verdict-allowed file (p .at) d there (allowed-is (s .knows) 2 ∙ may)))
+            (λ z. action-entered s next v x y (sym (action-fault-is (s .knows) v x y) ∙ (sym ef ∙ z)) (l .whole)),
       )
 
   pub condition-arm :
@@ -140,12 +149,12 @@ module _ (file : List ℕ) (p : Progress) (start next : ℕ) (t : Tables) (m : L
       let a = t .acts in
       let second : getD file (p .at + 2) 0 ≡ q = sym (eq ∙ ap (λ (i : ℕ). getD file i 0) (omega arith)) in (
         further-unless file (λ b. t .counts) p (afterCondition p v next) f
-            (λ z. (omega arith, condition-kept safe next (l .whole) v q (sym ef ∙ z) (k .1) (k .2) (omega arith))),
+            (λ z. (omega arith, record { inside = l .whole; bounds = condition-kept (safe .bounds) next v q (sym ef ∙ z) (k .1) (k .2) (omega arith) })),
         λ d s. meets-unless file
             (λ b. tables (t .counts) (actionTables (a .setters) (a .vars) (a .pres) (a .posts) (a .places) (pick b (set (a .manys) (p .actions - 1) (p .many + 1)) (a .manys))) (t .starts) (t .goals))
             (λ b. m) p (afterCondition p v next) (record { study = with (d .study) (condition v q); last = 3 }) f
-            (rw (ef ∙ condition-fault-is s v q, ev, eq) (verdict-allowed file (p .at) d there (allowed-is s 3 ∙ may)))
-            (λ z. condition-entered s next v q (k .1) (k .2) (safe .some-action (k .1) (k .2)) (omega arith) (l .whole)
+            (rw (ef ∙ condition-fault-is (s .knows) v q, ev, eq) (verdict-allowed file (p .at) d there (allowed-is (s .knows) 3 ∙ may)))
+            (λ z. condition-entered s next v q (k .1) (k .2) (safe .bounds .some-action (k .1) (k .2)) (omega arith) (l .whole)
             (sym (ev ∙ ap (λ (i : ℕ). getD file i 0) (l .starts))) second),
       )
 
@@ -159,11 +168,12 @@ module _ (file : List ℕ) (p : Progress) (start next : ℕ) (t : Tables) (m : L
   task-arm there may v x y ev ex ey f ef =
       let l = there-lies file (p .at) there in
       let k = may-follow (ltb (p .tasks) (p .vars)) (p .last) 4 0 0 0 0 may in (
-        further-unless file (λ b. t .counts) p (afterTask p next) f (λ z. (omega arith, task-kept safe next (l .whole))),
+        further-unless file (λ b. t .counts) p (afterTask p next) f
+            (λ z. (omega arith, record { inside = l .whole; bounds = task-kept (safe .bounds) next v x y (sym ef ∙ z) (task-last _ _ may) (omega arith) })),
         λ d s. meets-unless file (λ b. tables (t .counts) (t .acts) (pick b (set (t .starts) v x) (t .starts)) (pick b (set (t .goals) v y) (t .goals))) (λ b. m) p (afterTask p next)
             (record { study = with (d .study) (task v x y); last = 4 }) f
-            (rw (ef ∙ task-fault-is s v x y, ev, ex, ey) (verdict-allowed file (p .at) d there (allowed-is s 4 ∙ may)))
-            (λ z. task-entered s next v x y (sym (task-fault-is s v x y) ∙ (sym ef ∙ z)) (ltb-true (p .tasks) (p .vars) (k .2))),
+            (rw (ef ∙ task-fault-is (s .knows) v x y, ev, ex, ey) (verdict-allowed file (p .at) d there (allowed-is (s .knows) 4 ∙ may)))
+            (λ z. task-entered s next v x y (sym (task-fault-is (s .knows) v x y) ∙ (sym ef ∙ z)) (ltb-true (p .tasks) (p .vars) (k .2))),
       )
 
   pub seed-arm :
@@ -175,9 +185,9 @@ module _ (file : List ℕ) (p : Progress) (start next : ℕ) (t : Tables) (m : L
   seed-arm there may n en =
       let l = there-lies file (p .at) there in
       let k = may-follow (ltb (p .tasks) (p .vars)) (p .last) 5 0 0 0 0 may in (
-        further-unless file (λ b. t .counts) p (afterSeed p n next) (seedFault n) (λ z. (omega arith, seed-kept safe next (l .whole) n)),
+        further-unless file (λ b. t .counts) p (afterSeed p n next) (seedFault n) (λ z. (omega arith, record { inside = l .whole; bounds = seed-kept (safe .bounds) next n })),
         λ d s. meets-unless file (λ b. t) (λ b. m) p (afterSeed p n next) (record { study = with (d .study) (seed n); last = 5 }) (seedFault n)
-            (rw (seed-fault-is s n, en) (verdict-allowed file (p .at) d there (allowed-is s 5 ∙ may)))
+            (rw (seed-fault-is (s .knows) n, en) (verdict-allowed file (p .at) d there (allowed-is (s .knows) 5 ∙ may)))
             (λ z. seed-entered s next n (ltb-false (p .tasks) (p .vars) (k .2))),
       )
 
@@ -188,7 +198,7 @@ module _ (file : List ℕ) (p : Progress) (start next : ℕ) (t : Tables) (m : L
   unfolding decoded taken fault unless
   end-arm there may = (
     further-at-end (ltb next (length file)),
-    λ d s. meets-at-end d s (ltb next (length file)) (verdict-allowed file (p .at) d there (allowed-is s 6 ∙ may)),
+    λ d s. meets-at-end d s (ltb next (length file)) (verdict-allowed file (p .at) d there (allowed-is (s .knows) 6 ∙ may)),
   )
     where
       last-is : p .last ≡ 5
@@ -205,9 +215,9 @@ module _ (file : List ℕ) (p : Progress) (start next : ℕ) (t : Tables) (m : L
         e,
         record {
           sized = s .sized;
-          counts = s .counts;
+          counts = s .knows .counts;
           actions = s .actions;
-          tasks = subst (λ (n : ℕ). HoldsTasks n (t .starts) (t .goals) (d .study .tasks)) (let all = s .all-tasks (omega (arith, last-is)) in omega arith) (s .tasks);
+          tasks = subst (λ (n : ℕ). HoldsTasks n (t .starts) (t .goals) (d .study .tasks)) (let all = s .all-tasks (omega (arith, last-is)) in omega (arith, safe .bounds .few-tasks)) (s .tasks);
           seed = s .seed;
         },
       )
@@ -225,5 +235,5 @@ module _ (file : List ℕ) (p : Progress) (t : Tables) (m : List ℕ) where
       none (inr (inl x)) = omega arith
       none (inr (inr x)) = omega arith
   not-there-arm (Unknown place) e h = (tt, λ d s. verdict-by file (p .at) d e)
-  not-there-arm (Cut kind place) e h = (tt, λ d s. rw (← allowed-is s kind) (verdict-by file (p .at) d e))
+  not-there-arm (Cut kind place) e h = (tt, λ d s. rw (← allowed-is (s .knows) kind) (verdict-by file (p .at) d e))
   not-there-arm (Ended place) e h = (tt, λ d s. verdict-by file (p .at) d e)

@@ -1,22 +1,19 @@
--- A record taken without fault: the tables with its entry answer to the draft with it.
+-- A record taken without fault: all the tables with its entry answer to the draft with it.
 -- Assumes nothing.
-use mathlib.Core.Path.{_≡_, refl, sym, ap, _∙_}
-use mathlib.Core.List.{List, []}
+use mathlib.Core.Path.{_≡_, refl}
+use mathlib.Core.List.{List}
 use Prim.Native.Nat.{ℕ, _+_, _-_, _*_, _≤_, _<_}
-use native.Mathlib.Numerals.{add-one}
 use native.Mathlib.Omega.{arith}
 use lib.ListN.{length, getD, set, length-set}
 use lib.Seq.{getD-set-same}
-use borrow.Author.Tests.{le-leb}
-use Rattle.study.specs.Study.{Action, Task, noAction, noTask}
-use Rattle.study.specs.Reading.{Draft, fault, with, variable, action, condition, task, seed, above, lastAction, withCondition}
-use Rattle.study.proofs.Setters.{sets-kept}
+use Rattle.study.specs.Study.{Task, noTask}
+use Rattle.study.specs.Reading.{Draft, fault, with, variable, action, condition, task, seed}
 use Rattle.plain.proofs.Lists.{length-more}
 use Rattle.lawful.proofs.Faults.{faultless}
-use Rattle.pacing.proofs.Grows.{each-entered, table-more, last-entered, last-more, last-set}
+use Rattle.pacing.proofs.Grows.{table-more, last-entered}
 use Rattle.pacing.proofs.Actions.{actions-more}
-use Rattle.pacing.proofs.OneCondition.{above-more, action-with-condition}
-use Rattle.pacing.proofs.Marks.{marks-more, marks-same}
+use Rattle.pacing.proofs.OneCondition.{action-with-condition}
+use Rattle.pacing.proofs.Knowing.{variable-known, action-known, condition-known, task-known, seed-known}
 use Rattle.entering.specs.declared.Progress.{Progress}
 use Rattle.tables.specs.Tables.{Tables, tables, actionTables}
 use Rattle.entering.specs.Steps.{afterVariable, afterAction, afterCondition, afterTask, afterSeed}
@@ -28,22 +25,12 @@ module _ {file : List ℕ} {p : Progress} {t : Tables} {m : List ℕ} {d : Draft
       → fault (d .study) (variable n) ≡ 0
       → Stands file (afterVariable p next) (tables (set (t .counts) (p .vars) n) (t .acts) (t .starts) (t .goals)) m (record { study = with (d .study) (variable n); last = 1 })
   unfolding with
-  variable-entered n good = let (few, low, high) = faultless (d .study) (variable n) good in record {
+  variable-entered n good = record {
+    knows = variable-known (stands .knows) next n good (stands .sized .counts);
     sized = omega (arith, length-set (t .counts) (p .vars) n);
-    counts = record {
-      count = omega (arith, length-more (d .study .counts) n);
-      few = omega arith;
-      small = each-entered (λ _ m. m ≤ 16) (t .counts) (p .vars) n (omega arith) (stands .counts .small) high;
-      value = table-more (d .study .counts) n 0 (λ m. m) (t .counts) (p .vars) (stands .counts .count) (omega arith) (stands .counts .value);
-    };
     actions = stands .actions;
-    marks = stands .marks;
     tasks = stands .tasks;
-    few-tasks = omega arith;
     all-tasks = λ h. absurd (omega arith);
-    last = refl;
-    own = stands .own;
-    above = stands .above;
     seed = stands .seed;
     next-condition = λ h. absurd (omega arith);
     counted = λ h. absurd (omega arith);
@@ -60,11 +47,12 @@ module _ {file : List ℕ} {p : Progress} {t : Tables} {m : List ℕ} {d : Draft
       (t .starts) (t .goals))
       (set m (16 * v + y) 1)
       (record { study = with (d .study) (action v x y); last = 2 })
-  unfolding with above
+  unfolding with
   action-entered v x y good room =
       let (few, has-pre, has-post, differ, none) = faultless (d .study) (action v x y) good in
-      let narrow : y < 16 = omega (arith, stands .counts .small v (omega arith), stands .counts .value v (omega arith)) in
+      let narrow : y < 16 = omega (arith, stands .knows .counts .small v (omega arith), stands .knows .counts .value v (omega arith)) in
       record {
+        knows = action-known (stands .knows) next v x y good;
         sized = omega (
           arith,
           length-set (t .acts .setters) (16 * v + y) (p .actions),
@@ -74,26 +62,14 @@ module _ {file : List ℕ} {p : Progress} {t : Tables} {m : List ℕ} {d : Draft
           length-set (t .acts .places) (p .actions) next,
           length-set (t .acts .manys) (p .actions) 0,
         );
-        counts = stands .counts;
         actions = actions-more (stands .sized) (stands .actions) v x y next (omega arith) (omega arith)
             narrow none room;
-        marks = marks-more (stands .marks) new (omega arith) narrow;
         tasks = stands .tasks;
-        few-tasks = stands .few-tasks;
         all-tasks = λ h. absurd (omega arith);
-        last = refl;
-        own = sym (ap (λ a. a .var) last);
-        above = λ z. rw (last, le-leb 0 z (omega arith));
         seed = stands .seed;
         next-condition = λ h g. omega (arith, last-entered (t .acts .places) (p .actions) next (omega arith));
         counted = λ h g. last-entered (t .acts .manys) (p .actions) 0 (omega arith);
       }
-    where
-      new : Action
-      new = record { var = v; pre = x; post = y; conditions = [] }
-
-      last : lastAction (with (d .study) (action v x y)) ≡ new
-      last = last-more (d .study .actions) new noAction
 
   pub condition-entered :
       (v q : ℕ)
@@ -112,18 +88,13 @@ module _ {file : List ℕ} {p : Progress} {t : Tables} {m : List ℕ} {d : Draft
       (record { study = with (d .study) (condition v q); last = 3 })
   unfolding with
   condition-entered v q low high some at room is-var is-value = record {
+    knows = condition-known (stands .knows) next v q some;
     sized = omega (arith, length-set (t .acts .manys) (p .actions - 1) (p .many + 1));
-    counts = stands .counts;
     actions = rw (← same)
         (action-with-condition (stands .sized) (stands .actions) (p .actions - 1) v q (p .many) (p .at) (omega arith)
         (stands .counted low high) (stands .next-condition low high) (omega arith) is-var is-value);
-    marks = marks-same (stands .marks) (sets-kept (d .study .actions) (length (d .study .actions) - 1) (withCondition (lastAction (d .study)) v q) refl refl);
     tasks = stands .tasks;
-    few-tasks = stands .few-tasks;
     all-tasks = λ h. absurd (omega arith);
-    last = refl;
-    own = stands .own ∙ sym (ap (λ a. a .var) last);
-    above = λ z. rw (last, above-more (lastAction (d .study) .conditions) (record { var = v; value = q }) z, add-one);
     seed = stands .seed;
     next-condition = λ h g. omega (arith, stands .next-condition low high);
     counted = λ h g. getD-set-same (t .acts .manys) (p .actions - 1) (p .many + 1) 0 (omega arith);
@@ -132,9 +103,6 @@ module _ {file : List ℕ} {p : Progress} {t : Tables} {m : List ℕ} {d : Draft
       same : p .actions - 1 ≡ length (d .study .actions) - 1
       same = omega arith
 
-      last : lastAction (with (d .study) (condition v q)) ≡ withCondition (lastAction (d .study)) v q
-      last = last-set (d .study .actions) (withCondition (lastAction (d .study)) v q) noAction (omega arith)
-
   pub task-entered :
       (v x y : ℕ)
       → fault (d .study) (task v x y) ≡ 0
@@ -142,20 +110,15 @@ module _ {file : List ℕ} {p : Progress} {t : Tables} {m : List ℕ} {d : Draft
       → Stands file (afterTask p next) (tables (t .counts) (t .acts) (set (t .starts) v x) (set (t .goals) v y)) m (record { study = with (d .study) (task v x y); last = 4 })
   unfolding with
   task-entered v x y good left = record {
+    knows = task-known (stands .knows) next v x y;
     sized = omega (arith, length-set (t .starts) v x, length-set (t .goals) v y);
-    counts = stands .counts;
     actions = stands .actions;
-    marks = stands .marks;
     tasks = record {
       count = omega (arith, length-more old new);
       start = rw here (table-more old new noTask (λ a. a .start) (t .starts) (p .tasks) (stands .tasks .count) (omega arith) (stands .tasks .start));
       goal = rw here (table-more old new noTask (λ a. a .goal) (t .goals) (p .tasks) (stands .tasks .count) (omega arith) (stands .tasks .goal));
     };
-    few-tasks = omega arith;
     all-tasks = λ h. absurd (omega arith);
-    last = refl;
-    own = stands .own;
-    above = stands .above;
     seed = stands .seed;
     next-condition = λ h g. absurd (omega arith);
     counted = λ h g. absurd (omega arith);
@@ -176,16 +139,11 @@ module _ {file : List ℕ} {p : Progress} {t : Tables} {m : List ℕ} {d : Draft
       → Stands file (afterSeed p n next) t m (record { study = with (d .study) (seed n); last = 5 })
   unfolding with
   seed-entered n all = record {
+    knows = seed-known (stands .knows) next n;
     sized = stands .sized;
-    counts = stands .counts;
     actions = stands .actions;
-    marks = stands .marks;
     tasks = stands .tasks;
-    few-tasks = stands .few-tasks;
     all-tasks = λ h. all;
-    last = refl;
-    own = stands .own;
-    above = stands .above;
     seed = refl;
     next-condition = λ h g. absurd (omega arith);
     counted = λ h g. absurd (omega arith);

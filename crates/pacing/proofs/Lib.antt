@@ -1,8 +1,11 @@
 pub mod Told
+pub mod Reached
 pub mod Grows
 pub mod Actions
 pub mod OneCondition
 pub mod Marks
+pub mod Knowing
+pub mod Start
 pub mod Entered
 pub mod Kept
 pub mod Arms

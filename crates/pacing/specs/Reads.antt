@@ -8,7 +8,7 @@ use lib.Dec.{leb, ltb}
 use lib.ListN.{length, getD}
 use Rattle.plain.specs.Choose.{pick}
 use Rattle.study.specs.Study.{Action, Study}
-use Rattle.study.specs.Reading.{says, refused, Draft, Verdict, settled, onward, lastAction, above, mayFollow, sets}
+use Rattle.study.specs.Reading.{says, refused, Draft, Verdict, settled, onward, lastAction, above, mayFollow, sets, readOn, reading}
 use Rattle.records.specs.declared.Found.{Found}
 use Rattle.records.specs.declared.Found.the-variants.{There, Unknown, Cut, Ended}
 use Rattle.tables.specs.Tables.{Tables, Sized, HoldsCounts, HoldsActions, HoldsTasks, Holds}
@@ -32,37 +32,57 @@ afterEnd p len next = pick (ltb next len) (Refused 8 next) (Done p)
 abbrev pub seedOf : ℕ → ℕ → ℕ → ℕ → ℕ
 seedOf a b c d = ((a * 256 + b) * 256 + c) * 256 + d
 
--- what keeps every index and every sum in range
-pub record Safe (file : List ℕ) (p : Progress) (counts : List ℕ) : Type 0 where
-  pub inside : p .at ≤ length file
+-- before the first record
+abbrev pub origin : Progress
+origin = record { at = 0; vars = 0; actions = 0; tasks = 0; last = 0; own = 0; above = 0; many = 0; seed = 0 }
+
+-- what keeps every index and every sum in range, wherever the bytes come from
+pub record Bounds (p : Progress) (counts : List ℕ) : Type 0 where
   pub few-vars : p .vars ≤ 32
   pub few-actions : p .actions ≤ 256
+  pub few-tasks : p .tasks ≤ p .vars
   pub small : (v : ℕ) → v < p .vars → getD counts v 0 ≤ 16
   pub low : p .above ≤ 32
   pub fewer : p .many ≤ p .above
-  pub short : p .last ≤ 3 → p .at ≤ 2 * p .vars + (100 * p .actions + 3 * p .above)
+  pub short : p .last ≤ 4 → p .at ≤ 2 * p .vars + (100 * p .actions + (3 * p .above + 4 * p .tasks))
   pub some-action : 2 ≤ p .last → p .last ≤ 3 → 1 ≤ p .actions
+
+-- .. in a file
+pub record Safe (file : List ℕ) (p : Progress) (counts : List ℕ) : Type 0 where
+  pub inside : p .at ≤ length file
+  pub bounds : Bounds p counts
 
 -- each value that some action sets is marked, and no other
 pub record HoldsMarks (marks : List ℕ) (actions : List Action) : Type 0 where
   pub long : length marks ≡ 512
   pub tells : (v q : ℕ) → v < 32 → q < 16 → setInTable marks v q ≡ sets actions v q
 
--- the tables, the marks and the place answer to what has been read
-pub record Stands (file : List ℕ) (p : Progress) (t : Tables) (m : List ℕ) (d : Draft) : Type 0 where
-  pub sized : Sized t
-  pub counts : HoldsCounts (p .vars) (t .counts) (d .study .counts)
-  pub actions : HoldsActions file (p .actions) (t .acts) (d .study .actions)
+-- the counts of values, the marks and the numbers answer to what has been read: they tell every fault
+pub record Knows (p : Progress) (table m : List ℕ) (d : Draft) : Type 0 where
+  pub counts : HoldsCounts (p .vars) table (d .study .counts)
+  pub actions : p .actions ≡ length (d .study .actions)
   pub marks : HoldsMarks m (d .study .actions)
-  pub tasks : HoldsTasks (p .tasks) (t .starts) (t .goals) (d .study .tasks)
-  pub few-tasks : p .tasks ≤ p .vars
-  pub all-tasks : 5 ≤ p .last → p .vars ≤ p .tasks
+  pub tasks : p .tasks ≡ length (d .study .tasks)
   pub last : p .last ≡ d .last
   pub own : p .own ≡ lastAction (d .study) .var
   pub above : (v : ℕ) → leb (p .above) v ≡ above (lastAction (d .study) .conditions) v
+
+-- .. and so do all the tables, and the place
+pub record Stands (file : List ℕ) (p : Progress) (t : Tables) (m : List ℕ) (d : Draft) : Type 0 where
+  pub knows : Knows p (t .counts) m d
+  pub sized : Sized t
+  pub actions : HoldsActions file (p .actions) (t .acts) (d .study .actions)
+  pub tasks : HoldsTasks (p .tasks) (t .starts) (t .goals) (d .study .tasks)
+  pub all-tasks : 5 ≤ p .last → p .vars ≤ p .tasks
   pub seed : p .seed ≡ d .study .seed
   pub next-condition : 2 ≤ p .last → p .last ≤ 3 → getD (t .acts .places) (p .actions - 1) 0 + 3 * p .many ≡ p .at
   pub counted : 2 ≤ p .last → p .last ≤ 3 → getD (t .acts .manys) (p .actions - 1) 0 ≡ p .many
+
+-- what a file says is what is read on from a place, with what has been read before it; `looks` are enough to its end
+pub record Reached (file : List ℕ) (at : ℕ) (d : Draft) : Type 0 where
+  pub looks : ℕ
+  pub enough : length file < looks + at
+  pub reads : reading file ≡ readOn looks file at d
 
 -- a step goes on further down the file, and stays safe
 abbrev pub Further : List ℕ → ℕ → List ℕ → Step → Type 0

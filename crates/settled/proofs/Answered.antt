@@ -15,6 +15,8 @@ use Rattle.runs.specs.Run.{ran, runAnswer, runLeaves, RunAllows}
 use Rattle.planning.specs.Planning.{PlanAllows}
 use Rattle.planning.specs.Seeded.{seedRanks, SeededAllows}
 use Rattle.reference.proofs.Reference.{plannedFile, planned-file-allowed}
+use Rattle.spelling.specs.Write.{WriteAllows}
+use Rattle.spelling.proofs.Settled.{write-answers}
 use Rattle.marrowkite.specs.Told.{told, RecordAllows}
 
 -- what is given by equations is allowed
@@ -41,3 +43,6 @@ plan-answered file ranks before =
 
 pub seeded-answered : (file before : List ℕ) → Answers (SeededAllows file before)
 seeded-answered file = plan-answered file (seedRanks (reading file))
+
+pub write-answered : (variables actions conditions tasks : List ℕ) (seed : ℕ) (before : List ℕ) → Answers (WriteAllows variables actions conditions tasks seed before)
+write-answered = write-answers

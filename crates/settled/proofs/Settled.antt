@@ -13,6 +13,8 @@ use Rattle.runs.specs.Run.{ran, runAnswer, runLeaves, RunAllows}
 use Rattle.planning.specs.Planning.{PlanAllows}
 use Rattle.planning.specs.Seeded.{seedRanks, SeededAllows}
 use Rattle.planning.proofs.Determined.{file-plans-determined}
+use Rattle.spelling.specs.Write.{WriteAllows}
+use Rattle.spelling.proofs.Settled.{write-settles}
 use Rattle.marrowkite.specs.Told.{RecordAllows}
 
 -- what is given by equations is settled
@@ -37,3 +39,6 @@ plan-settled file ranks before r r′ after after′ p q = file-plans-determined
 
 pub seeded-settled : (file before : List ℕ) → Settles (SeededAllows file before)
 seeded-settled file = plan-settled file (seedRanks (reading file))
+
+pub write-settled : (variables actions conditions tasks : List ℕ) (seed : ℕ) (before : List ℕ) → Settles (WriteAllows variables actions conditions tasks seed before)
+write-settled = write-settles

@@ -80,10 +80,10 @@ add-t14 : tie.Need-add-t14 Inv-loop μ-loop
 add-t14 c = omega (arith, inside (c .before .before .before .before))
 
 add-t13 : tie.Need-add-t13 Inv-loop μ-loop
-add-t13 c = omega (arith, condition-bounds _ (sym (c .before .condition-fault .ensures) ∙ c .if2 .left), c .before .before .before .before .before .before .before .before .before .loop .inv .0 .few-vars)
+add-t13 c = omega (arith, condition-bounds _ (sym (c .before .condition-fault .ensures) ∙ c .if2 .left), c .before .before .before .before .before .before .before .before .before .loop .inv .0 .bounds .few-vars)
 
 add-t16 : tie.Need-add-t16 Inv-loop μ-loop
-add-t16 c = omega (arith, c .before .before .before .before .before .before .before .before .before .before .loop .inv .0 .fewer, c .before .before .before .before .before .before .before .before .before .before .loop .inv .0 .low)
+add-t16 c = omega (arith, c .before .before .before .before .before .before .before .before .before .before .loop .inv .0 .bounds .fewer, c .before .before .before .before .before .before .before .before .before .before .loop .inv .0 .bounds .low)
 
 loop-less : tie.Need-loop-less Inv-loop μ-loop
 unfolding bodyLength bodyLengths
@@ -96,7 +96,7 @@ loop-again c =
     let (safe, ((low, high, further), reached)) = c .before .before .before .before .before .before .before .before .before .before .loop .inv in
     let good = sym (c .before .before .condition-fault .ensures) ∙ c .before .if2 .left in
     let l = there-lies _ _ (is-there e) in (
-      condition-kept safe _ (inside e) _ _ good low high (omega (arith, l .starts)),
+      record { inside = inside e; bounds = condition-kept (safe .bounds) _ _ _ good low high (omega (arith, l .starts)) },
       (
         (omega arith, omega arith, omega (arith, l .starts)),
         λ acts starts goals marks h. condition-taken low high acts safe (is-there e) _ _ refl refl good (reached acts starts goals marks h),

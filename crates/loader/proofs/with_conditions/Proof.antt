@@ -1,7 +1,6 @@
 -- `loader::with_conditions` meets its contract: a run of conditions is read, and their number entered.
 -- Assumes nothing.
 use native.Mathlib.Omega.{arith}
-use Rattle.loader.specs.Halfway.{Halfway}
 use borrow.Author.Needs.{needs}
 use Rattle.loader.proofs.with_conditions.Statement.{statement}
 use Rattle.loader.proofs.with_conditions.Tie as tie
@@ -13,7 +12,7 @@ conditions-requires : tie.Need-conditions-requires
 conditions-requires c κs = search needs
 
 sub-enter-many : tie.Need-sub-enter-many
-sub-enter-many c = omega (arith, (c .before .conditions .ensures .0) .some-action (c .before .conditions .ensures .1 .0 .0) (c .before .conditions .ensures .1 .0 .1))
+sub-enter-many c = omega (arith, c .before .conditions .ensures .0 .bounds .some-action (c .before .conditions .ensures .1 .0 .0) (c .before .conditions .ensures .1 .0 .1))
 
 enter-many-requires : tie.Need-enter-many-requires
 enter-many-requires c κs = search needs

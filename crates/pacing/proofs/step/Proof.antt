@@ -46,7 +46,7 @@ may-follow-requires c κs = search needs
 
 returns-2 : tie.Need-returns-2
 returns-2 c =
-    (tt, λ d s. verdict-not-allowed _ _ d (is-there (c .before .before .before .before)) (allowed-is s _ ∙ not-taken (c .before .may-follow .ensures) (c .if1 .taken)))
+    (tt, λ d s. verdict-not-allowed _ _ d (is-there (c .before .before .before .before)) (allowed-is (s .knows) _ ∙ not-taken (c .before .may-follow .ensures) (c .if1 .taken)))
 
 take-requires : tie.Need-take-requires
 take-requires c κs =

@@ -84,7 +84,7 @@ on-action-requires c κs =
     let m = c .before .before .before .before .before .before .before in
     let s = m .before .before in
     let safe = s .pre .0 in
-    (safe .few-vars, safe .small, action-place _ _ _ _ (held s) (marked s) safe (is-there s 2 (m .match .keys2)) (may-come s 2 (m .match .keys2)))
+    (safe .bounds .few-vars, safe .bounds .small, action-place _ _ _ _ (held s) (marked s) safe (is-there s 2 (m .match .keys2)) (may-come s 2 (m .match .keys2)))
 
 shared-slice-read-on-condition : tie.Need-shared-slice-read-on-condition
 shared-slice-read-on-condition c = omega (arith, inside-3 (c .before))
@@ -103,7 +103,7 @@ on-condition-requires c κs =
     let m = c .before .before .before .before in
     let s = m .before .before in
     let safe = s .pre .0 in
-    (safe .few-vars, omega (arith, safe .fewer, safe .low), condition-action _ _ (s .args .start) 0 (held s) (marked s) safe (may-come s 3 (m .match .keys3)), safe .few-actions)
+    (safe .bounds .few-vars, omega (arith, safe .bounds .fewer, safe .bounds .low), condition-action _ _ (s .args .start) 0 (held s) (marked s) safe (may-come s 3 (m .match .keys3)), safe .bounds .few-actions)
 
 shared-slice-read-on-task : tie.Need-shared-slice-read-on-task
 shared-slice-read-on-task c = omega (arith, inside-4 (c .before))

@@ -1,0 +1,50 @@
+-- The lists that the program hands to the writer are those that its input stands for, and a file that was written lies within the buffer.
+-- Assumes nothing.
+use mathlib.Core.Path.{_≡_, refl, ap}
+use mathlib.Core.Bool.{Bool, true, false}
+use mathlib.Core.List.{List, _++_}
+use Prim.Native.Nat.{ℕ, _≤_}
+use native.Mathlib.Omega.{arith}
+use lib.Dec.{leb}
+use lib.ListN.{length, drop}
+use borrow.Author.Tests.{leb-true}
+use Rattle.plain.specs.Choose.{pick}
+use Rattle.answer.specs.declared.Answer.{Answer}
+use Rattle.answer.specs.Answers.{done, refusal}
+use Rattle.answer.specs.Allowing.{Exactly}
+use Rattle.study.specs.Reading.{Said, says, refused, reading}
+use Rattle.study.proofs.Refusals.{refusals-numbered}
+use Rattle.spelling.specs.Lists.{fileOf}
+use Rattle.spelling.specs.Lent.{lent}
+use Rattle.spelling.specs.Write.{Writes, WriteAllows}
+use Rattle.compose.specs.Input.{seedIn, actionsAt, conditionsAt, tasksAt, endAt, between, variablesIn, actionsIn, conditionsIn, tasksIn}
+
+pub handed :
+    (input before after : List ℕ) (r : Answer) (a b c d s : ℕ)
+    → a ≡ actionsAt input → b ≡ conditionsAt input → c ≡ tasksAt input → d ≡ endAt input → s ≡ seedIn input
+    → WriteAllows (between 12 a input) (between a b input) (between b c input) (between c d input) s before r after
+    → WriteAllows (variablesIn input) (actionsIn input) (conditionsIn input) (tasksIn input) (seedIn input) before r after
+handed input before after r a b c d s ea eb ec ed es w = rw (ea, eb, ec, ed, es) at w
+
+-- ---- what answer 0 says
+
+fits :
+    (file before : List ℕ) (r : Answer) (after : List ℕ) (b : Bool) → leb (length file) (length before) ≡ b → r .number ≡ 0
+    → pick b (Exactly (done (length file) 0) (file ++ drop (length file) before)) (Exactly (refusal 13 (length file)) before) r after
+    → r .first ≤ length before
+fits file before r after true test zero w = omega (arith, ap (λ (x : Answer). x .first) (w .0), leb-true (length file) (length before) test)
+fits file before r after false test zero w = absurd (omega (arith, ap (λ (x : Answer). x .number) (w .0)))
+
+fits-said :
+    (file before : List ℕ) (said : Said) → reading file ≡ said → (r : Answer) (after : List ℕ) → r .number ≡ 0
+    → Writes said file before r after → r .first ≤ length before
+fits-said file before (refused number place) e r after zero w =
+    absurd (omega (arith, ap (λ (x : Answer). x .number) (w .0), (rw e at (refusals-numbered file)) .0))
+fits-said file before (says study) e r after zero w = fits file before r after (leb (length file) (length before)) refl zero w
+
+pub written-fits :
+    (variables actions conditions tasks : List ℕ) (seed : ℕ) (before : List ℕ) (r : Answer) (after : List ℕ) → r .number ≡ 0
+    → WriteAllows variables actions conditions tasks seed before r after → r .first ≤ length before
+written-fits variables actions conditions tasks seed before r after zero w =
+    let file = fileOf (lent variables actions conditions tasks seed) in
+    fits-said file before (reading file) refl r after zero w

@@ -1,0 +1,131 @@
+-- `compose::compose` meets its contract: each list lies where the head says, within the input.
+-- Assumes nothing.
+use Prim.Native.Nat.{_+_}
+use native.Mathlib.Omega.{arith}
+use Rattle.compose.proofs.Handed.{handed}
+use borrow.Author.Needs.{needs}
+use Rattle.compose.proofs.compose.Statement.{statement}
+use Rattle.compose.proofs.compose.Tie as tie
+
+number-at-requires : tie.Need-number-at-requires
+number-at-requires c κs = search needs
+
+add-actions : tie.Need-add-actions
+add-actions c = search needs
+
+number-at-requires-2 : tie.Need-number-at-requires-2
+number-at-requires-2 c κs = search needs
+
+add-conditions : tie.Need-add-conditions
+add-conditions c = search needs
+
+number-at-requires-3 : tie.Need-number-at-requires-3
+number-at-requires-3 c κs = search needs
+
+add-tasks : tie.Need-add-tasks
+add-tasks c = search needs
+
+number-at-requires-4 : tie.Need-number-at-requires-4
+number-at-requires-4 c κs = search needs
+
+add-end : tie.Need-add-end
+add-end c = search needs
+
+sub-write : tie.Need-sub-write
+sub-write c = search needs
+
+part-write-start : tie.Need-part-write-start
+part-write-start c = search needs
+
+part-write-end : tie.Need-part-write-end
+part-write-end c = search needs
+
+sub-write-2 : tie.Need-sub-write-2
+sub-write-2 c = search needs
+
+part-write-start-2 : tie.Need-part-write-start-2
+part-write-start-2 c = search needs
+
+part-write-end-2 : tie.Need-part-write-end-2
+part-write-end-2 c = search needs
+
+sub-write-3 : tie.Need-sub-write-3
+sub-write-3 c = search needs
+
+part-write-start-3 : tie.Need-part-write-start-3
+part-write-start-3 c = search needs
+
+part-write-end-3 : tie.Need-part-write-end-3
+part-write-end-3 c = search needs
+
+sub-write-4 : tie.Need-sub-write-4
+sub-write-4 c = search needs
+
+part-write-start-4 : tie.Need-part-write-start-4
+part-write-start-4 c = search needs
+
+part-write-end-4 : tie.Need-part-write-end-4
+part-write-end-4 c = search needs
+
+seed-requires : tie.Need-seed-requires
+seed-requires c κs = search needs
+
+write-requires : tie.Need-write-requires
+write-requires c κs = search needs
+
+same-length : tie.Need-same-length
+same-length c = search needs
+
+returns : tie.Need-returns
+returns c =
+    let w = c .before .before in
+    let s = w .before .before in
+    let n4 = s .before .before .before .before .before in
+    let n3 = n4 .before in
+    let n2 = n3 .before in
+    let n1 = n2 .before in
+    let start = n1 .before .before .before in
+    let first = n1 .number-at .ensures .1 in
+    let second = n2 .number-at2 .ensures .1 in
+    let third = n3 .number-at3 .ensures .1 in
+    let fourth = n4 .number-at4 .ensures .1 in
+    let a = 12 + n1 .number-at .result in
+    let b = a + n2 .number-at2 .result in
+    let t = b + n3 .number-at3 .result in
+    let e = t + n4 .number-at4 .result in
+    handed (start .args .input .now) _ _ (w .write .result) a b t e (s .seed .result)
+    (omega (arith, first))
+    (omega (arith, first, second))
+    (omega (arith, first, second, third))
+    (omega (arith, first, second, third, fourth))
+    (s .seed .ensures)
+    (w .write .ensures)
+
+pub compose-spec : {M : Type 1} → statement M
+compose-spec =
+    tie.close
+    (tie.spec
+    number-at-requires
+    add-actions
+    number-at-requires-2
+    add-conditions
+    number-at-requires-3
+    add-tasks
+    number-at-requires-4
+    add-end
+    sub-write
+    part-write-start
+    part-write-end
+    sub-write-2
+    part-write-start-2
+    part-write-end-2
+    sub-write-3
+    part-write-start-3
+    part-write-end-3
+    sub-write-4
+    part-write-start-4
+    part-write-end-4
+    seed-requires
+    write-requires
+    same-length
+    returns)

@@ -1,0 +1,83 @@
+// Writes the study file that the lists on standard input stand for, or prints the refusal.
+//
+// The input begins with how many bytes of variables, actions, conditions and tasks come, two bytes each, and the seed, four
+// bytes, all most significant first. Then come those bytes. What does not come is 0, and nothing behind them is read.
+// The output is the line `written` with the file's length, then the file; or a refusal's line.
+ghost use Prim.Native.Nat.{_+_, _≤_, _<_};
+ghost use mathlib.Core.Path.{_≡_};
+ghost use lib.ListN.{length};
+ghost use Rattle.lawful.specs.Lengths.{longestFile};
+ghost use Rattle.spelling.specs.Write.{WriteAllows};
+ghost use Rattle.compose.specs.Input.{inputLength, numberAt, seedIn, variablesIn, actionsIn, conditionsIn, tasksIn};
+use answer::Answer;
+use libc::STDIN_FILENO;
+use libc::STDOUT_FILENO;
+
+// The longest input: a head of 12 bytes, and four lists of 65,535.
+const INPUT: usize = 262152;
+
+// The longest file.
+const ROOM: usize = 25030;
+
+fn main() {
+    let mut input = [0u8; INPUT];
+    io::read_full(STDIN_FILENO, &mut input);
+    print(&input);
+}
+
+fn print(input: &[u8])
+    requires { ⌜ length (now input) ≡ inputLength ⌝ }
+{
+    let mut file = [0u8; ROOM];
+    let answer = compose(input, &mut file);
+    if answer.number != 0 {
+        print_refusal(answer);
+        return;
+    }
+    let n = answer.first as usize;
+    io::write_all(STDOUT_FILENO, b"written ");
+    io::print_decimal(STDOUT_FILENO, answer.first);
+    io::write_all(STDOUT_FILENO, b"\n");
+    io::write_all(STDOUT_FILENO, &file[..n]);
+}
+
+fn print_refusal(answer: Answer) {
+    let mut line = [0u8; 71];
+    let n = telling::refused(answer, &mut line);
+    io::write_all(STDOUT_FILENO, &line[..n]);
+}
+
+// Writes into room for the longest file, so that 13 is never answered.
+fn compose(input: &[u8], file: &mut [u8]) -> Answer
+    requires { ⌜ (length (now input) ≡ inputLength) × (length (now file) ≡ longestFile) ⌝ }
+    ensures { λ r. ⌜ WriteAllows (variablesIn (now (input .entry))) (actionsIn (now (input .entry))) (conditionsIn (now (input .entry)))
+        (tasksIn (now (input .entry))) (seedIn (now (input .entry))) (now (file .entry)) r (now (file .exit)) ⌝ }
+{
+    let actions = 12 + number_at(input, 0);
+    let conditions = actions + number_at(input, 2);
+    let tasks = conditions + number_at(input, 4);
+    let end = tasks + number_at(input, 6);
+    writer::write(
+        &input[12..actions],
+        &input[actions..conditions],
+        &input[conditions..tasks],
+        &input[tasks..end],
+        seed(input),
+        file,
+    )
+}
+
+// Two bytes, most significant first.
+fn number_at(input: &[u8], at: usize) -> usize
+    requires { ⌜ (at < 12) × (length (now input) ≡ inputLength) ⌝ }
+    ensures { λ r. ⌜ (r < 65536) × (r ≡ numberAt (now (input .entry)) at) ⌝ }
+{
+    256 * tables::wide(input[at]) + tables::wide(input[at + 1])
+}
+
+fn seed(input: &[u8]) -> u32
+    requires { ⌜ length (now input) ≡ inputLength ⌝ }
+    ensures { λ r. ⌜ r ≡ seedIn (now (input .entry)) ⌝ }
+{
+    (65536 * number_at(input, 8) + number_at(input, 10)) as u32
+}

@@ -1,0 +1,4 @@
+pub mod Stops
+pub mod OneRecord
+pub mod LentBytes
+pub mod Starts

@@ -1,0 +1,73 @@
+-- `drafting::judge_end` meets its contract: a seed whose turn it is not is refused with 3, any other by its fault; without one the end follows, and the file loads.
+-- Assumes nothing.
+use mathlib.Core.Path.{_≡_, ap}
+use mathlib.Core.List.{List, [], _∷_}
+use native.Mathlib.Omega.{arith}
+use Prim.Native.Nat.{ℕ, _+_}
+use borrow.Author.Needs.{needs}
+use Rattle.study.specs.Reading.{seed, end}
+use Rattle.judging.specs.Faults.{seedFault}
+use Rattle.judging.proofs.Tests.{not-taken, not-left}
+use Rattle.entering.specs.Steps.{afterSeed}
+use Rattle.entering.proofs.Judged.{went-on}
+use Rattle.drafting.specs.Drafts.{Drafted, Leads}
+use Rattle.drafting.proofs.Stops.{stopped-judged}
+use Rattle.drafting.proofs.OneRecord.{out-of-turn, seed-leads, ends}
+use Rattle.drafting.proofs.judge_end.Statement.{statement}
+use Rattle.drafting.proofs.judge_end.Tie as tie
+
+leads :
+    (c : tie.After-on-seed) (file counts marks : List ℕ)
+    → Drafted file counts marks (c .before .before .before .before .before .args .p) (seed (c .before .before .before .before .before .args .n) ∷ end ∷ [])
+    → Leads file counts marks (end ∷ []) (c .on-seed .result)
+leads c file counts marks h =
+    rw (c .on-seed .ensures) (seed-leads _ (not-left (c .before .before .before .may-follow .ensures) (c .before .before .if1 .left)) h)
+
+seeded :
+    (c : tie.After-step)
+    → c .step .given .0 .0 ≡ afterSeed (c .before .before .before .before .before .before .before .args .p) (c .before .before .before .before .before .before .before .args .n) (c .before .before .before .before .before .before .before .args .p .at + 5)
+seeded c =
+    let a = c .before .before .before .before .before .before .before .args in
+    went-on (seedFault (a .n)) (a .p .at) (afterSeed (a .p) (a .n) (a .p .at + 5)) (c .before .before .on-seed .ensures) (c .step .given .1)
+
+may-follow-requires : tie.Need-may-follow-requires
+may-follow-requires c κs = search needs
+
+returns : tie.Need-returns
+returns c = λ file counts marks h. out-of-turn (seed _) h (not-taken (c .before .may-follow .ensures) (c .if1 .taken))
+
+add-on-seed : tie.Need-add-on-seed
+add-on-seed c = search needs
+
+on-seed-requires : tie.Need-on-seed-requires
+on-seed-requires c κs = search needs
+
+enum-known-step : tie.Need-enum-known-step
+enum-known-step c = search needs
+
+refusal-requires : tie.Need-refusal-requires
+refusal-requires c κs = search needs
+
+returns-2 : tie.Need-returns-2
+returns-2 c = rw (c .refusal .ensures) (λ file counts marks h. stopped-judged _ (c .before .match .keys2) (leads (c .before .before) file counts marks h))
+
+add-t9 : tie.Need-add-t9
+add-t9 c = omega (arith, ap (λ p. p .at) (seeded (c .before .before)))
+
+returns-3 : tie.Need-returns-3
+returns-3 c = λ file counts marks h.
+    ends (leads (c .before .before .before .before) file counts marks h .on _ (c .before .before .step .given .1)) (ap (λ p. p .last) (seeded (c .before .before)))
+
+pub judge-end-spec : {M : Type 1} → statement M
+judge-end-spec =
+    tie.close
+    (tie.spec
+    may-follow-requires
+    returns
+    add-on-seed
+    on-seed-requires
+    enum-known-step
+    refusal-requires
+    returns-2
+    add-t9
+    returns-3)

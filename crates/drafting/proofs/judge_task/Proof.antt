@@ -1,0 +1,50 @@
+-- `drafting::judge_task` meets its contract: a task whose turn it is not is refused with 3, any other by its fault, and without one it leads on.
+-- Assumes nothing.
+use mathlib.Core.Path.{refl}
+use native.Mathlib.Omega.{arith}
+use Prim.Native.Nat.{ℕ}
+use denote.Ref.{now}
+use borrow.Author.Needs.{needs}
+use Rattle.tables.specs.Rows.{countColumn}
+use Rattle.study.specs.Reading.{task}
+use Rattle.judging.specs.Faults.{taskFault}
+use Rattle.judging.proofs.Tests.{not-taken, not-left}
+use Rattle.entering.specs.Steps.{afterTask}
+use Rattle.pacing.proofs.Kept.{task-kept}
+use Rattle.drafting.proofs.Stops.{refused-keeps}
+use Rattle.drafting.proofs.OneRecord.{keeps-unless, not-in-turn, task-leads}
+use Rattle.drafting.proofs.judge_task.Statement.{statement}
+use Rattle.drafting.proofs.judge_task.Tie as tie
+
+may-follow-requires : tie.Need-may-follow-requires
+may-follow-requires c κs = search needs
+
+returns : tie.Need-returns
+returns c = (refused-keeps, λ file marks rest h. not-in-turn (task _ _ _) h (not-taken (c .before .may-follow .ensures) (c .if1 .taken)))
+
+add-on-task : tie.Need-add-on-task
+add-on-task c =
+    let (bounds, low) = c .before .before .before .before .pre in
+    omega (arith, bounds .short low, bounds .few-vars, bounds .few-actions, bounds .few-tasks, bounds .low)
+
+on-task-requires : tie.Need-on-task-requires
+on-task-requires c κs = search needs
+
+abbrev fault-of : tie.Start → ℕ
+fault-of s = taskFault (countColumn (now (s .args .rows))) (s .args .p .vars) (s .args .p .tasks) (s .args .v) (s .args .start) (s .args .goal)
+
+returns-2 : tie.Need-returns-2
+returns-2 c =
+    let s = c .before .before .before .before .before .before in
+    let a = s .args in
+    let (bounds, low) = s .pre in
+    let e = c .on-task .ensures in
+    rw (e .0, e .1 .0) (
+      keeps-unless (λ b. countColumn (now (a .rows))) _ (a .p) (afterTask (a .p) _) (fault-of s)
+          (λ z. (task-kept bounds _ (a .v) (a .start) (a .goal) z low refl, omega arith)),
+      λ file marks rest h. task-leads (a .v) (a .start) (a .goal) (not-left (c .before .before .before .before .may-follow .ensures) (c .before .before .before .if1 .left)) h (fault-of s) refl,
+    )
+
+pub judge-task-spec : {M : Type 1} → statement M
+judge-task-spec =
+    tie.close (tie.spec may-follow-requires returns add-on-task on-task-requires returns-2)

@@ -1,0 +1,281 @@
+// Judges the lists that a study file is to be written from: what the reader says of the bytes that they stand for, without
+// those bytes.
+ghost use mathlib.Core.Path.{_≡_};
+ghost use mathlib.Core.List.{List, [], _∷_, _++_, map};
+ghost use Prim.Native.Nat.{ℕ, _+_, _*_, _≤_, _<_};
+ghost use lib.ListN.{length, drop, getD};
+ghost use Rattle.study.specs.Reading.{Record, variable, action, task, seed, end};
+ghost use Rattle.tables.specs.Rows.{countColumn};
+ghost use Rattle.pacing.specs.Reads.{Bounds, origin};
+ghost use Rattle.spelling.specs.Lists.{conditionRecord, taskRecord, actionRecords, fileOf};
+ghost use Rattle.spelling.specs.Lent.{conditionsIn, firstOf, actionsIn, errandsIn, lent};
+ghost use Rattle.drafting.specs.Judges.{JudgedAs};
+ghost use Rattle.drafting.specs.Drafts.{Drafted, Leads, Keeps, firstCondition, refusalOf};
+use entering::Progress;
+use entering::Step;
+use judging::order;
+
+// What stands for a number that is not lent.
+const UNLENT: u8 = 255;
+
+// The lists load, as a file of so many bytes; or the reader's refusal.
+pub enum Judged {
+    Good(usize),
+    Refused { number: u8, place: usize },
+}
+
+fn judge_variable(p: Progress, n: u8, rows: &mut [[u8; 3]; 32]) -> Step
+    requires { ⌜ Bounds p (countColumn (now rows)) × (p .last ≤ 1) ⌝ }
+    ensures { λ r. ⌜ Keeps (countColumn (now (rows .exit))) (λ q. q .last ≤ 1) r ⌝ }
+    ensures { λ r. ⌜ ((file marks : List ℕ) (rest : List Record)
+        → Drafted file (countColumn (now (rows .entry))) marks p (variable n ∷ rest)
+        → Leads file (countColumn (now (rows .exit))) marks rest r) ⌝ }
+{
+    entering::on_variable(p, n, p.at + 2, rows)
+}
+
+fn judge_variables(variables: &[u8], rows: &mut [[u8; 3]; 32]) -> Step
+    ensures { λ r. ⌜ Keeps (countColumn (now (rows .exit))) (λ p. p .last ≤ 1) r ⌝ }
+    ensures { λ r. ⌜ ((file marks : List ℕ) (rest : List Record)
+        → Drafted file (countColumn (now (rows .entry))) marks origin (map variable (now (variables .entry)) ++ rest)
+        → Leads file (countColumn (now (rows .exit))) marks rest r) ⌝ }
+{
+    let mut p = Progress {
+        at: 0,
+        vars: 0,
+        actions: 0,
+        tasks: 0,
+        last: 0,
+        own: 0,
+        above: 0,
+        many: 0,
+        seed: 0,
+    };
+    let mut i = 0;
+    while i < variables.len() {
+        let step = judge_variable(p, variables[i], rows);
+        let Step::On(after) = step else {
+            return step;
+        };
+        p = after;
+        i += 1;
+    }
+    Step::On(p)
+}
+
+// An action that goes on names a variable: one that is not lent never goes on.
+fn judge_action(
+    p: Progress,
+    v: u8,
+    pre: u8,
+    post: u8,
+    rows: &[[u8; 3]; 32],
+    marks: &mut [u8; 512],
+) -> Step
+    requires { ⌜ Bounds p (countColumn (now rows)) × (p .last ≤ 3) ⌝ }
+    ensures { λ r. ⌜ Keeps (countColumn (now (rows .entry))) (λ q. (q .last ≡ 2) × (v < 32)) r ⌝ }
+    ensures { λ r. ⌜ ((file : List ℕ) (rest : List Record)
+        → Drafted file (countColumn (now (rows .entry))) (now (marks .entry)) p (action v pre post ∷ rest)
+        → Leads file (countColumn (now (rows .entry))) (now (marks .exit)) rest r) ⌝ }
+{
+    if !order::may_follow(p.tasks < p.vars, p.last, 2) {
+        return Step::Refused {
+            number: 3,
+            place: p.at,
+        };
+    }
+    entering::judge_action(p, v, pre, post, p.at + 4, rows, marks)
+}
+
+// The condition at a place of the lent bytes.
+fn judge_condition(p: Progress, conditions: &[u8], i: usize, rows: &[[u8; 3]; 32]) -> Step
+    requires { ⌜ Bounds p (countColumn (now rows)) × (2 ≤ p .last) × (p .last ≤ 3) × (i ≤ length (now conditions)) ⌝ }
+    ensures { λ r. ⌜ Keeps (countColumn (now (rows .entry))) (λ q. (q .last ≡ 3) × (i + 2 ≤ length (now (conditions .entry)))) r ⌝ }
+    ensures { λ r. ⌜ ((file marks : List ℕ) (rest : List Record)
+        → Drafted file (countColumn (now (rows .entry))) marks p (conditionRecord (firstCondition (conditionsIn (drop i (now (conditions .entry))))) ∷ rest)
+        → Leads file (countColumn (now (rows .entry))) marks rest r) ⌝ }
+{
+    let next = p.at + 3;
+    if conditions.len() - i < 2 {
+        return entering::judge_condition(p, UNLENT, UNLENT, next, rows);
+    }
+    entering::judge_condition(p, conditions[i], conditions[i + 1], next, rows)
+}
+
+// The conditions of one action, so many of them, from a place of the lent bytes on.
+fn judge_conditions(
+    begin: Progress,
+    many: u8,
+    conditions: &[u8],
+    used: usize,
+    rows: &[[u8; 3]; 32],
+) -> Step
+    requires { ⌜ Bounds begin (countColumn (now rows)) × (2 ≤ begin .last) × (begin .last ≤ 3) × (used ≤ length (now conditions)) ⌝ }
+    ensures { λ r. ⌜ Keeps (countColumn (now (rows .entry)))
+        (λ q. (q .last ≤ 3) × (used + 2 * many ≤ length (now (conditions .entry)))) r ⌝ }
+    ensures { λ r. ⌜ ((file marks : List ℕ) (rest : List Record)
+        → Drafted file (countColumn (now (rows .entry))) marks begin (map conditionRecord (firstOf many (conditionsIn (drop used (now (conditions .entry))))) ++ rest)
+        → Leads file (countColumn (now (rows .entry))) marks rest r) ⌝ }
+{
+    let mut p = begin;
+    let mut i = used;
+    let mut left = many;
+    while 0 < left {
+        let step = judge_condition(p, conditions, i, rows);
+        let Step::On(after) = step else {
+            return step;
+        };
+        p = after;
+        i += 2;
+        left -= 1;
+    }
+    Step::On(p)
+}
+
+// The action at a place of the lent bytes, with its conditions.
+fn judge_entry(
+    p: Progress,
+    actions: &[u8],
+    i: usize,
+    conditions: &[u8],
+    used: usize,
+    rows: &[[u8; 3]; 32],
+    marks: &mut [u8; 512],
+) -> Step
+    requires { ⌜ Bounds p (countColumn (now rows)) × (p .last ≤ 3) × (i + 4 ≤ length (now actions)) × (used ≤ length (now conditions)) ⌝ }
+    ensures { λ r. ⌜ Keeps (countColumn (now (rows .entry)))
+        (λ q. (q .last ≤ 3) × (used + 2 * getD (now (actions .entry)) (i + 3) 0 ≤ length (now (conditions .entry)))) r ⌝ }
+    ensures { λ r. ⌜ ((file : List ℕ) (rest : List Record)
+        → Drafted file (countColumn (now (rows .entry))) (now (marks .entry)) p
+        (actionRecords (actionsIn (drop i (now (actions .entry))) (conditionsIn (drop used (now (conditions .entry))))) ++ rest)
+        → Leads file (countColumn (now (rows .entry))) (now (marks .exit))
+        (actionRecords (actionsIn (drop (i + 4) (now (actions .entry))) (conditionsIn (drop (used + 2 * getD (now (actions .entry)) (i + 3) 0) (now (conditions .entry))))) ++ rest) r) ⌝ }
+{
+    let step = judge_action(p, actions[i], actions[i + 1], actions[i + 2], rows, marks);
+    let Step::On(after) = step else {
+        return step;
+    };
+    judge_conditions(after, actions[i + 3], conditions, used, rows)
+}
+
+fn judge_actions(
+    begin: Progress,
+    actions: &[u8],
+    conditions: &[u8],
+    rows: &[[u8; 3]; 32],
+    marks: &mut [u8; 512],
+) -> Step
+    requires { ⌜ Bounds begin (countColumn (now rows)) × (begin .last ≤ 1) ⌝ }
+    ensures { λ r. ⌜ Keeps (countColumn (now (rows .entry))) (λ q. q .last ≤ 3) r ⌝ }
+    ensures { λ r. ⌜ ((file : List ℕ) (rest : List Record)
+        → Drafted file (countColumn (now (rows .entry))) (now (marks .entry)) begin
+        (actionRecords (actionsIn (now (actions .entry)) (conditionsIn (now (conditions .entry)))) ++ rest)
+        → Leads file (countColumn (now (rows .entry))) (now (marks .exit)) rest r) ⌝ }
+{
+    let mut p = begin;
+    let mut i = 0;
+    let mut used = 0;
+    while 4 <= actions.len() - i {
+        let step = judge_entry(p, actions, i, conditions, used, rows, marks);
+        let Step::On(after) = step else {
+            return step;
+        };
+        p = after;
+        used += 2 * tables::wide(actions[i + 3]);
+        i += 4;
+    }
+    if i == actions.len() && used == conditions.len() {
+        return Step::On(p);
+    }
+    judge_action(p, UNLENT, UNLENT, UNLENT, rows, marks)
+}
+
+fn judge_task(p: Progress, v: u8, start: u8, goal: u8, rows: &mut [[u8; 3]; 32]) -> Step
+    requires { ⌜ Bounds p (countColumn (now rows)) × (p .last ≤ 4) ⌝ }
+    ensures { λ r. ⌜ Keeps (countColumn (now (rows .exit))) (λ q. q .last ≤ 4) r ⌝ }
+    ensures { λ r. ⌜ ((file marks : List ℕ) (rest : List Record)
+        → Drafted file (countColumn (now (rows .entry))) marks p (task v start goal ∷ rest)
+        → Leads file (countColumn (now (rows .exit))) marks rest r) ⌝ }
+{
+    if !order::may_follow(p.tasks < p.vars, p.last, 4) {
+        return Step::Refused {
+            number: 3,
+            place: p.at,
+        };
+    }
+    entering::on_task(p, v, start, goal, p.at + 4, rows)
+}
+
+fn judge_tasks(begin: Progress, tasks: &[u8], rows: &mut [[u8; 3]; 32]) -> Step
+    requires { ⌜ Bounds begin (countColumn (now rows)) × (begin .last ≤ 4) ⌝ }
+    ensures { λ r. ⌜ Keeps (countColumn (now (rows .exit))) (λ q. q .last ≤ 4) r ⌝ }
+    ensures { λ r. ⌜ ((file marks : List ℕ) (rest : List Record)
+        → Drafted file (countColumn (now (rows .entry))) marks begin (map taskRecord (errandsIn (now (tasks .entry))) ++ rest)
+        → Leads file (countColumn (now (rows .exit))) marks rest r) ⌝ }
+{
+    let mut p = begin;
+    let mut i = 0;
+    while 3 <= tasks.len() - i {
+        let step = judge_task(p, tasks[i], tasks[i + 1], tasks[i + 2], rows);
+        let Step::On(after) = step else {
+            return step;
+        };
+        p = after;
+        i += 3;
+    }
+    if i == tasks.len() {
+        return Step::On(p);
+    }
+    judge_task(p, UNLENT, UNLENT, UNLENT, rows)
+}
+
+fn refusal(step: Step) -> Judged
+    ensures { λ r. ⌜ r ≡ refusalOf step ⌝ }
+{
+    match step {
+        Step::Refused { number, place } => Judged::Refused { number, place },
+        _ => Judged::Refused {
+            number: 0,
+            place: 0,
+        },
+    }
+}
+
+// The seed, and behind it the end, which may always come there.
+fn judge_end(p: Progress, n: u32) -> Judged
+    requires { ⌜ p .at ≤ 30000 ⌝ }
+    ensures { λ r. ⌜ ((file counts marks : List ℕ) → Drafted file counts marks p (seed n ∷ end ∷ []) → JudgedAs file r) ⌝ }
+{
+    if !order::may_follow(p.tasks < p.vars, p.last, 5) {
+        return Judged::Refused {
+            number: 3,
+            place: p.at,
+        };
+    }
+    let step = entering::on_seed(p, n as u64, p.at + 5);
+    let Step::On(seeded) = step else {
+        return refusal(step);
+    };
+    Judged::Good(seeded.at + 1)
+}
+
+// What the reader says of the file that the lists stand for.
+pub fn judge(variables: &[u8], actions: &[u8], conditions: &[u8], tasks: &[u8], seed: u32) -> Judged
+    ensures { λ r. ⌜ JudgedAs (fileOf (lent (now (variables .entry)) (now (actions .entry)) (now (conditions .entry)) (now (tasks .entry)) seed)) r ⌝ }
+{
+    let mut rows = [[0u8; 3]; 32];
+    let by_variables = judge_variables(variables, &mut rows);
+    let Step::On(begun) = by_variables else {
+        return refusal(by_variables);
+    };
+    let mut marks = [0u8; 512];
+    let by_actions = judge_actions(begun, actions, conditions, &rows, &mut marks);
+    let Step::On(acted) = by_actions else {
+        return refusal(by_actions);
+    };
+    let by_tasks = judge_tasks(acted, tasks, &mut rows);
+    let Step::On(tasked) = by_tasks else {
+        return refusal(by_tasks);
+    };
+    judge_end(tasked, seed)
+}

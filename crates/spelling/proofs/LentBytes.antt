@@ -1,0 +1,49 @@
+-- Lent bytes from a place on: those of one entry and those behind it; and the conditions in them, two bytes each.
+-- Assumes nothing.
+use mathlib.Core.Path.{_≡_, refl}
+use mathlib.Core.List.{List, [], _∷_}
+use Prim.Native.Nat.{ℕ, zero, suc, _+_, _*_, _≤_}
+use native.Mathlib.Numerals.{add-one}
+use native.Mathlib.Omega.{arith}
+use lib.ListN.{length, getD, take, drop}
+use lib.Seq.{drop-cons, drop-nil}
+use Rattle.spelling.specs.Lent.{conditionsIn, firstOf}
+
+module _ (bytes : List ℕ) where
+  abbrev byte : ℕ → ℕ
+  byte i = getD bytes i 0
+
+  byte-at : (i j : ℕ) → j ≡ i + 1 → j ≤ length bytes → drop i bytes ≡ byte i ∷ drop j bytes
+  byte-at i j e h = rw (e, add-one i) (drop-cons bytes i 0 (omega arith))
+
+  module _ (i : ℕ) where
+    pub one-byte : i + 1 ≤ length bytes → drop i bytes ≡ byte i ∷ drop (i + 1) bytes
+    one-byte h = byte-at i (i + 1) refl h
+
+    pub two-bytes : i + 2 ≤ length bytes → drop i bytes ≡ byte i ∷ byte (i + 1) ∷ drop (i + 2) bytes
+    two-bytes h = rw (one-byte (omega arith), byte-at (i + 1) (i + 2) (omega arith) h)
+
+    pub three-bytes : i + 3 ≤ length bytes → drop i bytes ≡ byte i ∷ byte (i + 1) ∷ byte (i + 2) ∷ drop (i + 3) bytes
+    three-bytes h = rw (two-bytes (omega arith), byte-at (i + 2) (i + 3) (omega arith) h)
+
+    pub four-bytes : i + 4 ≤ length bytes → drop i bytes ≡ byte i ∷ byte (i + 1) ∷ byte (i + 2) ∷ byte (i + 3) ∷ drop (i + 4) bytes
+    four-bytes h = rw (three-bytes (omega arith), byte-at (i + 3) (i + 4) (omega arith) h)
+
+-- ---- conditions
+
+twice : (n : ℕ) → 2 * suc n ≡ suc (suc (2 * n))
+twice n = omega arith
+
+pub conditions-behind : (n : ℕ) (bytes : List ℕ) → drop n (conditionsIn bytes) ≡ conditionsIn (drop (2 * n) bytes)
+unfolding conditionsIn
+conditions-behind zero bytes = refl
+conditions-behind (suc n) [] = rw (drop-nil (2 * suc n)) refl
+conditions-behind (suc n) (v ∷ []) = rw (twice n, drop-nil n)
+conditions-behind (suc n) (v ∷ q ∷ rest) = rw (twice n) (conditions-behind n rest)
+
+pub first-conditions : (n : ℕ) (bytes : List ℕ) → 2 * n ≤ length bytes → firstOf n (conditionsIn bytes) ≡ conditionsIn (take (2 * n) bytes)
+unfolding conditionsIn firstOf
+first-conditions zero bytes h = refl
+first-conditions (suc n) [] h = absurd (omega arith)
+first-conditions (suc n) (v ∷ []) h = absurd (omega arith)
+first-conditions (suc n) (v ∷ q ∷ rest) h = rw (twice n, first-conditions n rest (omega arith))

@@ -1,0 +1,10 @@
+pub mod Spelled
+pub mod Told
+pub mod SoFar
+pub mod Rewritten
+pub mod ReadBack
+pub mod OneSpelling
+pub mod NeverCut
+pub mod Whole
+pub mod LentBytes
+pub mod Settled

@@ -1,0 +1,138 @@
+-- A file that was written is refused with 3 to 7 or not at all: each of its records is whole and of a known kind, and the end comes last.
+-- Assumes nothing.
+use mathlib.Core.Path.{_≡_, refl, sym, ap, subst}
+use mathlib.Core.Logic.{_⊎_, inl, inr}
+use mathlib.Core.Bool.{Bool, true, false, not, _&&_}
+use mathlib.Core.List.{List, [], _∷_, _++_, map, append-assoc}
+use Prim.Native.Nat.{ℕ, zero, suc, _+_, _≤_}
+use native.Mathlib.Omega.{arith}
+use lib.Dec.{leb, ltb, eqb}
+use lib.ListN.{length, drop, length-append, length-drop}
+use borrow.Author.Tests.{ltb-true}
+use Rattle.plain.specs.Choose.{pick}
+use Rattle.plain.proofs.Tests.{picked}
+use Rattle.study.specs.Study.{Action, Study}
+use Rattle.study.specs.Reading.{Said, says, refused, Record, variable, action, condition, task, seed, end, Draft, blank, allowed, inRange, sets, above, lastAction, fault}
+use Rattle.study.specs.Reading.{Verdict, taken, unless, follow, readOn, reading}
+use Rattle.lawful.specs.Lengths.{bytesOf}
+use Rattle.spelling.specs.Spelling.{kindOf, spelledRecord, spelled}
+use Rattle.spelling.specs.Lists.{Lists, conditionRecord, taskRecord, actionRecords, recordsOf, fileOf}
+use Rattle.spelling.proofs.Spelled.{some-bytes, spelled-length, rest-there, spelled-verdict}
+
+-- ---- the end comes last
+
+abbrev EndsLast : List Record → Type 0
+EndsLast [] = ⊥
+EndsLast (r ∷ rs) = ((kindOf r ≤ 5) × EndsLast rs) ⊎ ((kindOf r ≡ 6) × (rs ≡ []))
+
+goes-on : (r : Record) (rs : List Record) → kindOf r ≤ 5 → EndsLast (r ∷ rs) → EndsLast rs
+goes-on r rs h (inl e) = e .1
+goes-on r rs h (inr e) = absurd (omega arith)
+
+none-follows : (rs : List Record) → EndsLast (end ∷ rs) → rs ≡ []
+none-follows rs (inl e) = absurd (omega arith)
+none-follows rs (inr e) = e .1
+
+others-first :
+    {A : Type 0} (f : A → Record) → ((x : A) → kindOf (f x) ≤ 5)
+    → (xs : List A) (rs : List Record) → EndsLast rs → EndsLast (map f xs ++ rs)
+others-first f h [] rs e = e
+others-first f h (x ∷ xs) rs e = inl (h x, others-first f h xs rs e)
+
+actions-first : (xs : List Action) (rs : List Record) → EndsLast rs → EndsLast (actionRecords xs ++ rs)
+unfolding actionRecords
+actions-first [] rs e = e
+actions-first (x ∷ xs) rs e =
+    inl (
+      omega arith,
+      subst EndsLast (sym (append-assoc (map conditionRecord (x .conditions)) (actionRecords xs) rs))
+          (others-first conditionRecord (λ c. omega arith) (x .conditions) (actionRecords xs ++ rs) (actions-first xs rs e)),
+    )
+
+lists-end-last : (l : Lists) → EndsLast (recordsOf l)
+unfolding recordsOf
+lists-end-last l =
+    others-first variable (λ n. omega arith) (l .variables) _
+    (actions-first (l .actions) _
+    (others-first taskRecord (λ t. omega arith) (l .tasks) _
+    (inl (omega arith, inr (refl, refl)))))
+
+-- ---- what a record earns
+
+abbrev pub From3To7 : Said → Type 0
+From3To7 (says s) = Unit {0}
+From3To7 (refused number place) = (3 ≤ number) × (number ≤ 7)
+
+-- a fault is 0 or 4 to 7
+abbrev Fault : ℕ → Type 0
+Fault n = 1 ≤ n → (4 ≤ n) × (n ≤ 7)
+
+one-of : (b : Bool) {x y : ℕ} → (b ≡ true → Fault x) → (b ≡ false → Fault y) → Fault (pick b x y)
+one-of = picked Fault
+
+faults : (s : Study) (r : Record) → Fault (fault s r)
+unfolding fault
+faults s (variable n) = one-of (leb 32 (length (s .counts))) (λ _ h. omega arith) (λ _. one-of (leb 2 n && leb n 16) (λ _ h. omega arith) (λ _ h. omega arith))
+faults s (action v p q) =
+    one-of (leb 256 (length (s .actions))) (λ _ h. omega arith)
+    λ _. one-of (not (inRange s v p && inRange s v q)) (λ _ h. omega arith)
+    λ _. one-of (eqb p q) (λ _ h. omega arith)
+    λ _. one-of (sets (s .actions) v q) (λ _ h. omega arith) (λ _ h. omega arith)
+faults s (condition v q) =
+    one-of (not (inRange s v q)) (λ _ h. omega arith)
+    λ _. one-of (eqb v (lastAction s .var)) (λ _ h. omega arith)
+    λ _. one-of (above (lastAction s .conditions) v) (λ _ h. omega arith) (λ _ h. omega arith)
+faults s (task v p q) = one-of (eqb v (length (s .tasks)) && (inRange s v p && inRange s v q)) (λ _ h. omega arith) (λ _ h. omega arith)
+faults s (seed n) = one-of (leb 1 n && leb n 2147483646) (λ _ h. omega arith) (λ _ h. omega arith)
+faults s end = λ h. omega arith
+
+unless-fault : (n at : ℕ) (v : Verdict) (read : ℕ → Draft → Said) → Fault n → From3To7 (follow v read) → From3To7 (follow (unless n at v) read)
+unfolding unless
+unless-fault zero at v read h g = g
+unless-fault (suc n) at v read h g = let f = h (omega arith) in omega arith
+
+-- ---- reading on where records are spelled
+
+module _ (file : List ℕ) where
+  taken-from-3-to-7 :
+      (d : Draft) (next : ℕ) (read : ℕ → Draft → Said) (r : Record) (rs : List Record) → drop next file ≡ spelled rs → EndsLast (r ∷ rs)
+      → (EndsLast rs → (d′ : Draft) → From3To7 (read next d′)) → From3To7 (follow (taken file d (kindOf r) next r) read)
+  unfolding taken spelled
+  taken-from-3-to-7 d next read (variable n) rs here ends on = on (goes-on (variable n) rs (omega arith) ends) _
+  taken-from-3-to-7 d next read (action v p q) rs here ends on = on (goes-on (action v p q) rs (omega arith) ends) _
+  taken-from-3-to-7 d next read (condition v q) rs here ends on = on (goes-on (condition v q) rs (omega arith) ends) _
+  taken-from-3-to-7 d next read (task v p q) rs here ends on = on (goes-on (task v p q) rs (omega arith) ends) _
+  taken-from-3-to-7 d next read (seed n) rs here ends on = on (goes-on (seed n) rs (omega arith) ends) _
+  taken-from-3-to-7 d next read end rs here ends on =
+      let none : drop next file ≡ [] = rw (none-follows rs ends) at here in
+      picked From3To7 (ltb next (length file))
+      (λ more. absurd (omega (arith, ltb-true next (length file) more, length-drop next file, ap length none)))
+      (λ _. tt)
+
+  -- a look for each record is enough
+  read-on-from-3-to-7 :
+      (rs : List Record) (n at : ℕ) (d : Draft) → drop at file ≡ spelled rs → EndsLast rs → length rs ≤ n → From3To7 (readOn n file at d)
+  unfolding readOn spelled
+  read-on-from-3-to-7 [] n at d here ends looks = absurd ends
+  read-on-from-3-to-7 (r ∷ rs) zero at d here ends looks = absurd (omega arith)
+  read-on-from-3-to-7 (r ∷ rs) (suc n) at d here ends looks =
+      let there = rest-there file (spelled rs) at r here in
+      rw (spelled-verdict file (spelled rs) at r here d)
+      (picked (λ (v : Verdict). From3To7 (follow v (readOn n file))) (allowed d (kindOf r))
+      (λ _. unless-fault (fault (d .study) r) at _ (readOn n file) (faults (d .study) r)
+      (taken-from-3-to-7 d (at + bytesOf r) (readOn n file) r rs there ends
+      (λ e d′. read-on-from-3-to-7 rs n (at + bytesOf r) d′ there e (omega arith))))
+      (λ _. omega arith))
+
+fewer-records : (rs : List Record) → length rs ≤ length (spelled rs)
+unfolding spelled
+fewer-records [] = omega arith
+fewer-records (r ∷ rs) = omega (arith, fewer-records rs, length-append (spelledRecord r) (spelled rs), spelled-length r, some-bytes r)
+
+pub written-from-3-to-7 : (l : Lists) → From3To7 (reading (fileOf l))
+unfolding reading fileOf
+written-from-3-to-7 l =
+    read-on-from-3-to-7 (fileOf l) (recordsOf l) (length (fileOf l) + 1) 0 blank refl (lists-end-last l) (omega (arith, fewer-records (recordsOf l)))
+
+pub written-never-1-2-8 : (l : Lists) (number place : ℕ) → reading (fileOf l) ≡ refused number place → (3 ≤ number) × (number ≤ 7)
+written-never-1-2-8 l number place e = subst From3To7 e (written-from-3-to-7 l)

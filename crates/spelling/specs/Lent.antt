@@ -1,0 +1,63 @@
+-- The lists that lent bytes stand for: a byte for each variable; four for each action, the last of them how many conditions it takes; two for each condition; three for each task. No input stands for none: an entry that is cut short, and a condition that is announced and not lent, has 255 for each of its numbers; conditions that no action takes are those of one more action, whose numbers are 255. No record with such a number is allowed, so a slip shows as a refusal.
+-- Assumes nothing.
+use Prim.Native.Nat.{ℕ, zero, suc, _+_}
+use mathlib.Core.List.{List, [], _∷_}
+use lib.ListN.{drop}
+use Rattle.study.specs.Study.{Condition, Action}
+use Rattle.spelling.specs.Lists.{Errand, Lists}
+
+-- what stands for a number that is not lent
+abbrev pub unlent : ℕ
+unlent = 255
+
+abbrev pub unlentCondition : Condition
+unlentCondition = record { var = unlent; value = unlent }
+
+abbrev pub unlentErrand : Errand
+unlentErrand = record { var = unlent; start = unlent; goal = unlent }
+
+-- an action that is not lent whole takes all the conditions that are left
+abbrev pub unlentAction : List Condition → Action
+unlentAction conditions = record { var = unlent; pre = unlent; post = unlent; conditions = conditions }
+
+unfoldable pub conditionsIn : List ℕ → List Condition
+conditionsIn [] = []
+conditionsIn (v ∷ []) = unlentCondition ∷ []
+conditionsIn (v ∷ q ∷ rest) = record { var = v; value = q } ∷ conditionsIn rest
+
+-- the first n of them, and for those that are not lent what stands for them
+unfoldable pub firstOf : ℕ → List Condition → List Condition
+firstOf zero conditions = []
+firstOf (suc n) [] = unlentCondition ∷ firstOf n []
+firstOf (suc n) (c ∷ rest) = c ∷ firstOf n rest
+
+-- conditions with no action left to take them
+unfoldable pub left : List Condition → List Action
+left [] = []
+left (c ∷ rest) = unlentAction (c ∷ rest) ∷ []
+
+unfoldable pub actionsIn : List ℕ → List Condition → List Action
+actionsIn [] conditions = left conditions
+actionsIn (v ∷ []) conditions = unlentAction conditions ∷ []
+actionsIn (v ∷ p ∷ []) conditions = unlentAction conditions ∷ []
+actionsIn (v ∷ p ∷ q ∷ []) conditions = unlentAction conditions ∷ []
+actionsIn (v ∷ p ∷ q ∷ n ∷ rest) conditions =
+    record { var = v; pre = p; post = q; conditions = firstOf n conditions } ∷ actionsIn rest (drop n conditions)
+
+-- how many conditions the actions take
+unfoldable pub announced : List ℕ → ℕ
+announced [] = 0
+announced (v ∷ []) = 0
+announced (v ∷ p ∷ []) = 0
+announced (v ∷ p ∷ q ∷ []) = 0
+announced (v ∷ p ∷ q ∷ n ∷ rest) = n + announced rest
+
+unfoldable pub errandsIn : List ℕ → List Errand
+errandsIn [] = []
+errandsIn (v ∷ []) = unlentErrand ∷ []
+errandsIn (v ∷ p ∷ []) = unlentErrand ∷ []
+errandsIn (v ∷ p ∷ q ∷ rest) = record { var = v; start = p; goal = q } ∷ errandsIn rest
+
+abbrev pub lent : (variables actions conditions tasks : List ℕ) → ℕ → Lists
+lent variables actions conditions tasks seed =
+    record { variables = variables; actions = actionsIn actions (conditionsIn conditions); tasks = errandsIn tasks; seed = seed }

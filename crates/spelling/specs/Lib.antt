@@ -1,0 +1,4 @@
+pub mod Spelling
+pub mod Lists
+pub mod Lent
+pub mod Write

@@ -1,0 +1,91 @@
+-- The bytes of the records from an entry of a lent list on: those of the entry, and those from the next on.
+-- Assumes nothing.
+use mathlib.Core.Path.{_≡_}
+use mathlib.Core.List.{List, [], _∷_, _++_, map}
+use Prim.Native.Nat.{ℕ, _+_, _*_, _-_, _≤_}
+use native.Mathlib.Omega.{arith}
+use lib.ListN.{length, getD, take, drop, length-drop, drop-of-length-le}
+use lib.Seq.{drop-drop}
+use Rattle.study.specs.Reading.{variable}
+use Rattle.spelling.specs.Spelling.{spelledRecord, spelled}
+use Rattle.spelling.specs.Lists.{conditionRecord, taskRecord, actionRecords}
+use Rattle.spelling.specs.Lent.{conditionsIn, left, actionsIn, announced, errandsIn}
+use Rattle.spelling.proofs.Rewritten.{spelled-append}
+use Rattle.spelling.proofs.LentBytes.{one-byte, two-bytes, three-bytes, four-bytes, first-conditions, conditions-behind}
+use Rattle.writing.proofs.Putting.{Starts}
+
+pub nothing-left : (l : List ℕ) (i : ℕ) → length l ≤ i → drop i l ≡ []
+nothing-left l i h = drop-of-length-le l h
+
+-- ---- the bytes from an entry on
+
+abbrev pub variablesFrom : List ℕ → ℕ → List ℕ
+variablesFrom variables i = spelled (map variable (drop i variables))
+
+abbrev pub conditionsFrom : List ℕ → ℕ → List ℕ
+conditionsFrom conditions i = spelled (map conditionRecord (conditionsIn (drop i conditions)))
+
+abbrev pub tasksFrom : List ℕ → ℕ → List ℕ
+tasksFrom tasks i = spelled (map taskRecord (errandsIn (drop i tasks)))
+
+-- .. of the actions, with the conditions from a place on
+abbrev pub actionsFrom : List ℕ → List ℕ → ℕ → ℕ → List ℕ
+actionsFrom actions conditions i used = spelled (actionRecords (actionsIn (drop i actions) (conditionsIn (drop used conditions))))
+
+module _ (variables : List ℕ) (i : ℕ) (h : i + 1 ≤ length variables) where
+  pub variable-first : Starts (variablesFrom variables i) (1 ∷ getD variables i 0 ∷ []) (variablesFrom variables (i + 1))
+  unfolding spelled spelledRecord
+  variable-first = record { split = rw (one-byte variables i h) }
+
+module _ (conditions : List ℕ) (i : ℕ) (h : i + 2 ≤ length conditions) where
+  pub condition-first : Starts (conditionsFrom conditions i) (3 ∷ getD conditions i 0 ∷ getD conditions (i + 1) 0 ∷ []) (conditionsFrom conditions (i + 2))
+  unfolding spelled spelledRecord conditionsIn
+  condition-first = record { split = rw (two-bytes conditions i h) }
+
+module _ (tasks : List ℕ) (i : ℕ) (h : i + 3 ≤ length tasks) where
+  pub task-first : Starts (tasksFrom tasks i) (4 ∷ getD tasks i 0 ∷ getD tasks (i + 1) 0 ∷ getD tasks (i + 2) 0 ∷ []) (tasksFrom tasks (i + 3))
+  unfolding spelled spelledRecord errandsIn
+  task-first = record { split = rw (three-bytes tasks i h) }
+
+module _ (actions : List ℕ) (i : ℕ) (h : i + 4 ≤ length actions) where
+  pub announced-first : announced (drop i actions) ≡ getD actions (i + 3) 0 + announced (drop (i + 4) actions)
+  unfolding announced
+  announced-first = rw (four-bytes actions i h)
+
+  -- its conditions end at a place
+  pub action-first :
+      (conditions : List ℕ) (used next : ℕ) → next ≡ used + 2 * getD actions (i + 3) 0 → next ≤ length conditions
+      → Starts (actionsFrom actions conditions i used)
+      (2 ∷ getD actions i 0 ∷ getD actions (i + 1) 0 ∷ getD actions (i + 2) 0 ∷ [])
+      (conditionsFrom (take (next - used) (drop used conditions)) 0 ++ actionsFrom actions conditions (i + 4) next)
+  unfolding spelled spelledRecord actionRecords actionsIn
+  action-first conditions used next e fits =
+      record {
+        split = rw (
+          four-bytes actions i h,
+          width,
+          first-conditions many later (omega (arith, length-drop used conditions)),
+          conditions-behind many later,
+          drop-drop (2 * many) used conditions,
+          ← e,
+          spelled-append (map conditionRecord (conditionsIn (take (2 * many) later))) _,
+        );
+      }
+    where
+      many : ℕ
+      many = getD actions (i + 3) 0
+
+      later : List ℕ
+      later = drop used conditions
+
+      width : next - used ≡ 2 * many
+      width = omega arith
+
+pub no-action-left :
+    (actions conditions : List ℕ) (i used : ℕ)
+    → length actions ≤ i → used + 2 * announced (drop i actions) ≡ length conditions → actionsFrom actions conditions i used ≡ []
+unfolding spelled actionRecords actionsIn left conditionsIn announced
+no-action-left actions conditions i used h e =
+    let none = nothing-left actions i h in
+    let all = rw none at e in
+    rw (none, nothing-left conditions used (omega arith))

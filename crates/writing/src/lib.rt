@@ -1,0 +1,144 @@
+// Writes a study file from lists that were judged good: one record after another, each byte once.
+ghost use mathlib.Core.Path.{_≡_};
+ghost use mathlib.Core.List.{[], _∷_, _++_, map};
+ghost use Prim.Native.Nat.{_+_, _*_, _%_, _≤_};
+ghost use lib.ListN.{length, drop};
+ghost use lib.Seq.{sets};
+ghost use Rattle.study.specs.Study.{Study};
+ghost use Rattle.study.specs.Reading.{variable, seed, end, says, reading};
+ghost use Rattle.spelling.specs.Spelling.{spelled};
+ghost use Rattle.spelling.specs.Lists.{conditionRecord, taskRecord, actionRecords, fileOf};
+ghost use Rattle.spelling.specs.Lent.{conditionsIn, actionsIn, announced, errandsIn, lent};
+ghost use Rattle.writing.specs.Put.{Fits, Put};
+
+// ---- so many bytes, into the file from a place on; each returns the place after them
+
+fn put_two(a: u8, b: u8, at: usize, file: &mut [u8]) -> usize
+    requires { ⌜ Fits (a ∷ b ∷ []) at (now file) ⌝ }
+    ensures { λ r. ⌜ Put (a ∷ b ∷ []) at (now (file .entry)) (now (file .exit)) r ⌝ }
+{
+    file[at] = a;
+    file[at + 1] = b;
+    at + 2
+}
+
+fn put_three(a: u8, b: u8, c: u8, at: usize, file: &mut [u8]) -> usize
+    requires { ⌜ Fits (a ∷ b ∷ c ∷ []) at (now file) ⌝ }
+    ensures { λ r. ⌜ Put (a ∷ b ∷ c ∷ []) at (now (file .entry)) (now (file .exit)) r ⌝ }
+{
+    file[at] = a;
+    file[at + 1] = b;
+    file[at + 2] = c;
+    at + 3
+}
+
+fn put_four(a: u8, b: u8, c: u8, d: u8, at: usize, file: &mut [u8]) -> usize
+    requires { ⌜ Fits (a ∷ b ∷ c ∷ d ∷ []) at (now file) ⌝ }
+    ensures { λ r. ⌜ Put (a ∷ b ∷ c ∷ d ∷ []) at (now (file .entry)) (now (file .exit)) r ⌝ }
+{
+    file[at] = a;
+    file[at + 1] = b;
+    file[at + 2] = c;
+    file[at + 3] = d;
+    at + 4
+}
+
+// ---- the records of one list; each returns the place after them
+
+fn put_variables(variables: &[u8], begin: usize, file: &mut [u8]) -> usize
+    requires { ⌜ Fits (spelled (map variable (now variables))) begin (now file) ⌝ }
+    ensures { λ r. ⌜ Put (spelled (map variable (now (variables .entry)))) begin (now (file .entry)) (now (file .exit)) r ⌝ }
+{
+    let mut at = begin;
+    let mut i = 0;
+    while i < variables.len() {
+        at = put_two(1, variables[i], at, file);
+        i += 1;
+    }
+    at
+}
+
+fn put_conditions(conditions: &[u8], begin: usize, file: &mut [u8]) -> usize
+    requires { ⌜ (length (now conditions) % 2 ≡ 0)
+        × Fits (spelled (map conditionRecord (conditionsIn (now conditions)))) begin (now file) ⌝ }
+    ensures { λ r. ⌜ Put (spelled (map conditionRecord (conditionsIn (now (conditions .entry))))) begin (now (file .entry)) (now (file .exit)) r ⌝ }
+{
+    let mut at = begin;
+    let mut i = 0;
+    while i < conditions.len() {
+        at = put_three(3, conditions[i], conditions[i + 1], at, file);
+        i += 2;
+    }
+    at
+}
+
+// Each action is followed by its conditions.
+fn put_actions(actions: &[u8], conditions: &[u8], begin: usize, file: &mut [u8]) -> usize
+    requires { ⌜ (length (now actions) % 4 ≡ 0) × (length (now conditions) ≡ 2 * announced (now actions))
+        × Fits (spelled (actionRecords (actionsIn (now actions) (conditionsIn (now conditions))))) begin (now file) ⌝ }
+    ensures { λ r. ⌜ Put (spelled (actionRecords (actionsIn (now (actions .entry)) (conditionsIn (now (conditions .entry)))))) begin
+        (now (file .entry)) (now (file .exit)) r ⌝ }
+{
+    let mut at = begin;
+    let mut i = 0;
+    let mut used = 0;
+    while i < actions.len() {
+        at = put_four(2, actions[i], actions[i + 1], actions[i + 2], at, file);
+        let next = used + 2 * tables::wide(actions[i + 3]);
+        at = put_conditions(&conditions[used..next], at, file);
+        used = next;
+        i += 4;
+    }
+    at
+}
+
+fn put_tasks(tasks: &[u8], begin: usize, file: &mut [u8]) -> usize
+    requires { ⌜ (length (now tasks) % 3 ≡ 0)
+        × Fits (spelled (map taskRecord (errandsIn (now tasks)))) begin (now file) ⌝ }
+    ensures { λ r. ⌜ Put (spelled (map taskRecord (errandsIn (now (tasks .entry))))) begin (now (file .entry)) (now (file .exit)) r ⌝ }
+{
+    let mut at = begin;
+    let mut i = 0;
+    while i < tasks.len() {
+        at = put_four(4, tasks[i], tasks[i + 1], tasks[i + 2], at, file);
+        i += 3;
+    }
+    at
+}
+
+// The seed in four bytes, most significant first, and the end.
+fn put_last(n: u32, begin: usize, file: &mut [u8])
+    requires { ⌜ Fits (spelled (seed n ∷ end ∷ [])) begin (now file) ⌝ }
+    ensures { λ _. ⌜ now (file .exit) ≡ sets (now (file .entry)) begin (spelled (seed n ∷ end ∷ [])) ⌝ }
+{
+    let at = put_three(
+        5,
+        (n / 16777216) as u8,
+        (n / 65536 % 256) as u8,
+        begin,
+        file,
+    );
+    put_three((n / 256 % 256) as u8, (n % 256) as u8, 6, at, file);
+}
+
+// The file that the lists stand for fills the first bytes.
+pub fn write(
+    variables: &[u8],
+    actions: &[u8],
+    conditions: &[u8],
+    tasks: &[u8],
+    seed: u32,
+    file: &mut [u8],
+)
+    requires { ⌜ ((s : Study) × (reading (fileOf (lent (now variables) (now actions) (now conditions) (now tasks) seed)) ≡ says s))
+        × (length (fileOf (lent (now variables) (now actions) (now conditions) (now tasks) seed)) ≤ length (now file)) ⌝ }
+    ensures { λ _. ⌜ now (file .exit)
+        ≡ fileOf (lent (now (variables .entry)) (now (actions .entry)) (now (conditions .entry)) (now (tasks .entry)) seed)
+        ++ drop (length (fileOf (lent (now (variables .entry)) (now (actions .entry)) (now (conditions .entry)) (now (tasks .entry)) seed)))
+        (now (file .entry)) ⌝ }
+{
+    let actions_at = put_variables(variables, 0, file);
+    let tasks_at = put_actions(actions, conditions, actions_at, file);
+    let seed_at = put_tasks(tasks, tasks_at, file);
+    put_last(seed, seed_at, file);
+}

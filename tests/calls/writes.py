@@ -1,0 +1,171 @@
+"""Writing files from lists: the porter's lists whole, faulty and cut, and lists at document 01's limits."""
+
+from study import PORTER, Refused, action_record, condition_record, end_record, read, seed_record, task_record, variable_record
+
+UNLENT = 255  # each number of what is announced and not lent
+
+
+def file_of(variables, actions, conditions, tasks, seed):
+    """The bytes that the lists stand for."""
+    data = b"".join(variable_record(count) for count in variables)
+    while actions or conditions:  # an action that is cut, and one that is not there, takes all conditions left
+        all_left = (len(conditions) + 1) // 2
+        variable, pre, post, many = actions[:4] if len(actions) > 3 else (UNLENT, UNLENT, UNLENT, all_left)
+        actions = actions[4:]
+        data += action_record(variable, pre, post)
+        for _ in range(many):
+            data += condition_record(*(conditions[:2] if len(conditions) > 1 else (UNLENT, UNLENT)))
+            conditions = conditions[2:]
+    while tasks:
+        data += task_record(*(tasks[:3] if len(tasks) > 2 else (UNLENT, UNLENT, UNLENT)))
+        tasks = tasks[3:]
+    return data + seed_record(seed) + end_record()
+
+
+def written(lists, buffer):
+    """The three numbers, and the buffer with the file in its first bytes."""
+    data = file_of(*lists)
+    try:
+        read(data)
+    except Refused as refused:
+        return (refused.number, refused.place, 0), buffer
+    if len(buffer) < len(data):
+        return (13, len(data), 0), buffer
+    return (0, len(data), 0), data + buffer[len(data) :]
+
+
+def add(book, lists, room, says=None, leaves=None):
+    """A call more of the case that was begun. The lists are given as the file's bytes, one after another."""
+    *parts, seed = lists
+    book.use(b"".join(parts))
+    made = "write", lambda buffer: written(lists, buffer)
+    book.lend(made, seed, *map(len, parts), room=room, says=says, leaves=leaves)
+
+
+def show(book, name, lists, room=60, says=None, leaves=None):
+    book.case(f"write: {name}")
+    add(book, lists, room, says, leaves)
+
+
+def refused(book, name, lists, *numbers):
+    """A refusal that document 01 and the rules for lists settle."""
+    show(book, name, lists, room=12, says=(*numbers, 0), leaves=b"")
+
+
+VARIABLES = bytes([2, 3, 2])
+ACTIONS = bytes.fromhex("00000100 01000100 01010202 02000102 00010000")
+CONDITIONS = bytes.fromhex("0001 0201 0001 0101")
+TASKS = bytes.fromhex("000001 010002 020001")
+
+
+def porter(variables=VARIABLES, actions=ACTIONS, conditions=CONDITIONS, tasks=TASKS, seed=1):
+    return variables, actions, conditions, tasks, seed
+
+
+def with_byte(data, at, byte):
+    return data[:at] + bytes([byte]) + data[at + 1 :]
+
+
+def whole(book):
+    show(book, "the porter", porter(), says=(0, 56, 0), leaves=PORTER)
+    show(book, "the porter, room for 56", porter(), room=56, says=(0, 56, 0), leaves=PORTER)
+    show(book, "the porter, room for 55", porter(), room=55, says=(13, 56, 0), leaves=b"")
+    show(book, "the porter, no room", porter(), room=0, says=(13, 56, 0), leaves=b"")
+    show(book, "the largest seed", porter(seed=2147483646), says=(0, 56, 0))
+    show(book, "a seed of four different bytes", porter(seed=0x01020304), says=(0, 56, 0))
+    show(book, "no action", porter(actions=b"", conditions=b""), says=(0, 24, 0))
+    show(book, "one variable alone", (bytes([2]), b"", b"", bytes([0, 0, 0]), 1), says=(0, 12, 0))
+    book.case("write: in one buffer: the porter, the porter with seed 0, one without conditions")
+    add(book, porter(), 60)
+    add(book, porter(seed=0), 60)
+    add(book, porter(actions=ACTIONS[:8], conditions=b"", seed=3), 60)
+
+
+def faults(book):
+    """3 to 7, each with its place, into a buffer that is too short for the file: 13 comes last."""
+    refused(book, "nothing at all", (b"", b"", b"", b"", 1), 3, 0)
+    refused(book, "no variable", porter(variables=b""), 3, 0)
+    refused(book, "no variable, and conditions left over", (b"", b"", CONDITIONS, b"", 1), 3, 0)
+    refused(book, "no variable, and tasks alone", (b"", b"", b"", TASKS, 1), 3, 0)
+    refused(book, "no task", porter(tasks=b""), 3, 38)
+    refused(book, "a task too few", porter(tasks=TASKS[:6]), 3, 46)
+    refused(book, "a task too many", porter(tasks=TASKS + TASKS[:3]), 3, 50)
+    refused(book, "33 variables", (bytes([2] * 33), b"", b"", b"", 1), 4, 64)
+    refused(book, "33 variables, the last of no value", (bytes([2] * 32 + [0]), b"", b"", b"", 1), 4, 64)
+    refused(book, "a variable of 1 value", porter(variables=bytes([2, 1, 2])), 5, 2)
+    refused(book, "a variable of 17 values", porter(variables=bytes([2, 17, 2])), 5, 2)
+    refused(book, "an action of no variable", porter(actions=with_byte(ACTIONS, 4, 3)), 5, 10)
+    refused(book, "a pre too large", porter(actions=with_byte(ACTIONS, 9, 3)), 5, 14)
+    refused(book, "a condition on no variable", porter(conditions=with_byte(CONDITIONS, 2, 3)), 5, 21)
+    refused(book, "a condition's value too large", porter(conditions=with_byte(CONDITIONS, 7, 3)), 5, 31)
+    refused(book, "tasks out of order", porter(tasks=TASKS[3:6] + TASKS[:3] + TASKS[6:]), 5, 38)
+    refused(book, "a goal too large", porter(tasks=with_byte(TASKS, 5, 3)), 5, 42)
+    for seed in (0, 2147483647, 4294967295):
+        refused(book, f"seed {seed}", porter(seed=seed), 5, 50)
+    refused(book, "pre equal to post", porter(actions=with_byte(ACTIONS, 10, 1)), 6, 14)
+    refused(book, "conditions out of order", porter(conditions=CONDITIONS[2:4] + CONDITIONS[:2] + CONDITIONS[4:]), 6, 21)
+    refused(book, "a condition repeated", porter(conditions=with_byte(CONDITIONS, 2, 0)), 6, 21)
+    refused(book, "a condition on the own variable", porter(conditions=with_byte(CONDITIONS, 0, 1)), 6, 18)
+    refused(book, "an action that comes before", porter(actions=ACTIONS[:16] + ACTIONS[:4]), 7, 34)
+
+
+def cut(book):
+    """Entries that are cut, conditions that are missing, conditions that are left over."""
+    refused(book, "a byte more of actions", porter(actions=ACTIONS + b"\0"), 5, 38)
+    refused(book, "an action cut", porter(actions=ACTIONS[:19]), 5, 34)
+    refused(book, "an action cut that should take conditions", porter(actions=ACTIONS[:15]), 5, 24)
+    refused(book, "a condition cut", porter(conditions=CONDITIONS[:7]), 5, 31)
+    refused(book, "a condition missing", porter(conditions=CONDITIONS[:6]), 5, 31)
+    refused(book, "all conditions missing", porter(conditions=b""), 5, 18)
+    refused(book, "an action that announces 255", porter(actions=with_byte(ACTIONS, 19, 255)), 5, 38)
+    refused(book, "a condition left over", porter(conditions=CONDITIONS + CONDITIONS[:2]), 5, 38)
+    refused(book, "a byte of conditions left over", porter(conditions=CONDITIONS + b"\0"), 5, 38)
+    refused(book, "conditions and no action", porter(actions=b""), 5, 6)
+    refused(book, "a task cut", porter(tasks=TASKS[:8]), 5, 46)
+    refused(book, "a task cut behind the last", porter(tasks=TASKS + b"\0\0"), 3, 50)
+
+
+def each_byte(book):
+    for which, data in enumerate((VARIABLES, ACTIONS, CONDITIONS, TASKS)):
+        name = ("variables", "actions", "conditions", "tasks")[which]
+        book.case(f"write: {name} cut to 0, 1 .. {len(data)} bytes, and with one more")
+        for changed in [data[:length] for length in range(len(data) + 1)] + [data + b"\1"]:
+            add(book, porter(**{name: changed}), 0)
+        for at in range(len(data)):
+            book.case(f"write: byte {at} of {name} set to 0 1 2 3 255")
+            for byte in (0, 1, 2, 3, 255):
+                add(book, porter(**{name: with_byte(data, at, byte)}), 0)
+
+
+# The limits. 17 variables of 16 values, and for each value of the first 16 an action.
+SETTERS = bytes(byte for v in range(16) for q in range(16) for byte in (v, (q + 1) % 16, q, 0))
+
+
+def many_actions(actions, conditions=b""):
+    return bytes([16] * 17), actions, conditions, bytes(byte for v in range(17) for byte in (v, 0, 1)), 1
+
+
+def many_conditions(own, *more):
+    conditions = bytes(byte for v in range(32) if v != own for byte in (v, 1)) + bytes(more)
+    actions = bytes([own, 0, 1, len(conditions) // 2])
+    return bytes([2] * 32), actions, conditions, bytes(byte for v in range(32) for byte in (v, 0, 1)), 1
+
+
+def limits(book):
+    show(book, "32 variables", (bytes([2] * 32), b"", b"", bytes(byte for v in range(32) for byte in (v, 0, 0)), 1), 264)
+    show(book, "256 actions", many_actions(SETTERS), 264, says=(13, 1132, 0))
+    refused(book, "257 actions", many_actions(SETTERS + bytes([16, 0, 1, 0])), 4, 1058)
+    refused(book, "257 actions, the last of no variable", many_actions(SETTERS + bytes([17, 0, 1, 0])), 4, 1058)
+    refused(book, "256 actions and one that is cut", many_actions(SETTERS + b"\0"), 4, 1058)
+    refused(book, "256 actions and a condition left over", many_actions(SETTERS, b"\0\0"), 4, 1058)
+    show(book, "31 conditions", many_conditions(15), 264, says=(13, 295, 0))
+    refused(book, "31 conditions, then the last again", many_conditions(15, 31, 1), 6, 161)
+    refused(book, "31 conditions, then one on no variable", many_conditions(15, 32, 0), 5, 161)
+
+
+def write(book):
+    whole(book)
+    faults(book)
+    cut(book)
+    each_byte(book)
+    limits(book)
