@@ -11,7 +11,7 @@ typedef struct {
   marrowkite_answer (*run)(const uint8_t *, size_t, const uint8_t *, size_t, uint8_t *, size_t);
   marrowkite_answer (*draw)(uint64_t, uint64_t, uint8_t *, size_t);
   marrowkite_record (*record_at)(const uint8_t *, size_t, uint64_t);
-  marrowkite_answer (*write)(const uint8_t *, size_t, const uint8_t *, size_t, const uint8_t *, size_t, const uint8_t *,
+  marrowkite_answer (*write)(uint8_t, const uint8_t *, size_t, const uint8_t *, size_t, const uint8_t *, size_t, const uint8_t *,
                              size_t, uint32_t, uint8_t *, size_t);
 } calls;
 
@@ -23,7 +23,7 @@ static const calls plain = {plain_check, plain_plan,      plain_plan_seeded, pla
 enum { RECORD_AT, CHECK, PLAN, PLAN_SEEDED, RUN, DRAW, WRITE };
 enum { READ = 4, ROOM = 32768 };
 
-/* Which call, two numbers (the place; or the seed and the count; or the seed), how many bytes of the slices that are read
+/* Which call, two numbers (the place; or the seed and the count; or the seed and the situation), how many bytes of the slices that are read
  * (file and list; or variables, actions, conditions and tasks) and of the buffer. */
 typedef struct {
   size_t which, one, two, len[READ], buffer_len;
@@ -42,7 +42,8 @@ static void make_calls(const calls *c, given g, size_t often) {
     if (g.which == DRAW) c->draw(g.one, g.two, buffer, g.buffer_len);
     if (g.which == RECORD_AT) c->record_at(file, file_len, g.one);
     if (g.which == WRITE)
-      c->write(in[0], g.len[0], in[1], g.len[1], in[2], g.len[2], in[3], g.len[3], (uint32_t)g.one, buffer, g.buffer_len);
+      c->write((uint8_t)g.two, in[0], g.len[0], in[1], g.len[1], in[2], g.len[2], in[3], g.len[3], (uint32_t)g.one, buffer,
+               g.buffer_len);
   }
 }
 

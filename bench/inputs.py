@@ -1,5 +1,5 @@
-"""The files that the calls are measured on: the porter file, files of 10 to 256 actions made from a fixed seed, and the
-longest file. Each has a straight plan."""
+"""The files that the calls are measured on: the porter file, files of 10 to 256 actions made from a fixed seed, two of them
+with a set of situations for each action, and the longest file. Each has a straight plan."""
 
 import random
 import sys
@@ -10,6 +10,7 @@ sys.path.insert(0, str(ROOT / "tests"))
 import study  # noqa: E402
 
 SIZES = [10, 20, 30, 60, 128, 256]
+WITH_SETS = [30, 256]
 
 
 def walk_lengths(rng, actions, variables):
@@ -56,9 +57,21 @@ def made(actions, seed):
     return study.written(study.Study(counts, out, starts, state, rng.randrange(1, study.LARGEST_SEED + 1)))
 
 
+def with_sets(data, situation=2):
+    """The same study in a situation, each action with a set that has it."""
+    rng = random.Random(situation)
+    said = study.read(data)
+    for action in said.actions:
+        action.situations = rng.randrange(128) | 1 << situation
+    said.situation = situation
+    return study.written(said)
+
+
 def files():
     """Name and bytes of each."""
     yield "porter", study.PORTER
     for actions in SIZES:
         yield f"{actions} actions", made(actions, actions)
+    for actions in WITH_SETS:
+        yield f"{actions} with sets", with_sets(made(actions, actions))
     yield "longest", (ROOT / "studies" / "longest.bin").read_bytes()

@@ -1,4 +1,4 @@
-/* Document 01's calls in plain C, written for speed and proved nowhere: what the library is measured against. Each section
+/* The calls of documents 01 and 02 in plain C, written for speed and proved nowhere: what the library is measured against. Each section
  * of the file has a loop of its own, no table is cleared that need not be, and while planning nothing is looked at again
  * before what it waits for has come. */
 #include "plain.h"
@@ -6,20 +6,20 @@
 void *memcpy(void *to, const void *from, size_t len);
 void *memset(void *to, int byte, size_t len);
 
-enum { VARIABLE = 1, ACTION, CONDITION, TASK, SEED, END };
-enum { MOST_VARIABLES = 32, MOST_ACTIONS = 256, LARGEST_SEED = 2147483646 };
+enum { VARIABLE = 1, ACTION, CONDITION, TASK, SEED, END, SITUATIONS, SITUATION };
+enum { MOST_VARIABLES = 32, MOST_ACTIONS = 256, LARGEST_SEED = 2147483646, ALWAYS = 255 };
 
 typedef marrowkite_answer answer;
 
 static answer three(uint64_t number, uint64_t first, uint64_t second) { return (answer){number, first, second}; }
 static answer refused(uint64_t number, uint64_t first) { return three(number, first, 0); }
 
-/* What a file says. `set` and `setter` tell for each variable which values some action sets, and which action. */
+/* What a file says. `set` and `setter` tell for each variable which values some action in force sets, and which action. */
 typedef struct {
   unsigned variables, actions;
   uint32_t seed;
   uint8_t counts[MOST_VARIABLES], starts[MOST_VARIABLES], goals[MOST_VARIABLES];
-  uint8_t variable[MOST_ACTIONS], pre[MOST_ACTIONS], post[MOST_ACTIONS];
+  uint8_t variable[MOST_ACTIONS], pre[MOST_ACTIONS], post[MOST_ACTIONS], in_force[MOST_ACTIONS];
   uint16_t place[MOST_ACTIONS], end[MOST_ACTIONS]; /* where its conditions begin and end */
   uint16_t set[MOST_VARIABLES];
   uint8_t setter[MOST_VARIABLES * 16];
@@ -28,13 +28,20 @@ typedef struct {
 /* No record, or one that may not stand here. */
 static answer misplaced(const uint8_t *f, size_t len, size_t at) {
   if (at >= len) return refused(1, len);
-  return refused((unsigned)(f[at] - 1) < 6 ? 3 : 2, at);
+  return refused((unsigned)(f[at] - 1) < 8 ? 3 : 2, at);
 }
 
 /* One function, since cut up into the sections it executed 3 % more. */
 static answer load(const uint8_t *f, size_t len, study *s) {
-  size_t at = 0;
-  unsigned n = 0, a = 0;
+  size_t at = 0, repeat = 0;
+  unsigned n = 0, a = 0, situation = 0;
+  if (len > 0 && f[0] == SITUATION) {
+    if (len < 2) return refused(1, 0);
+    situation = f[1];
+    if (situation > 7) return refused(5, 0);
+    if (situation == 0) return refused(6, 0);
+    at = 2;
+  }
   for (; at < len && f[at] == VARIABLE; at += 2, n++) {
     if (len - at < 2) return refused(1, at);
     if (n == MOST_VARIABLES) return refused(4, at);
@@ -50,9 +57,7 @@ static answer load(const uint8_t *f, size_t len, study *s) {
     unsigned v = f[at + 1], p = f[at + 2], q = f[at + 3], above = 0;
     if (v >= n || p >= s->counts[v] || q >= s->counts[v]) return refused(5, at);
     if (p == q) return refused(6, at);
-    if (s->set[v] >> q & 1) return refused(7, at);
-    s->set[v] |= (uint16_t)(1u << q);
-    s->setter[16 * v + q] = (uint8_t)a;
+    size_t place = at;
     s->variable[a] = (uint8_t)v;
     s->pre[a] = (uint8_t)p;
     s->post[a] = (uint8_t)q;
@@ -65,6 +70,18 @@ static answer load(const uint8_t *f, size_t len, study *s) {
       above = u + 1;
     }
     s->end[a] = (uint16_t)at;
+    unsigned in_force = 1;
+    if (at < len && f[at] == SITUATIONS) {
+      if (len - at < 2) return refused(1, at);
+      if (f[at + 1] == ALWAYS) return refused(6, at);
+      in_force = f[at + 1] >> situation & 1;
+      at += 2;
+    }
+    s->in_force[a] = (uint8_t)in_force;
+    if (!in_force) continue;
+    if (s->set[v] >> q & 1 && repeat == 0) repeat = place;
+    s->set[v] |= (uint16_t)(1u << q);
+    s->setter[16 * v + q] = (uint8_t)a;
   }
   for (unsigned v = 0; v < n; v++, at += 4) {
     if (at >= len || f[at] != TASK) return misplaced(f, len, at);
@@ -80,6 +97,7 @@ static answer load(const uint8_t *f, size_t len, study *s) {
   if (seed - 1 >= LARGEST_SEED) return refused(5, at);
   at += 5;
   if (at >= len || f[at] != END) return misplaced(f, len, at);
+  if (repeat != 0) return refused(7, repeat);
   if (++at < len) return refused(8, at);
   s->variables = n;
   s->actions = a;
@@ -371,6 +389,7 @@ answer plain_run(const uint8_t *file, size_t file_len, const uint8_t *plan, size
   for (size_t k = 0; k < plan_len; k++) {
     unsigned i = plan[k];
     if (i >= s.actions) return refused(14, k);
+    if (!s.in_force[i]) return refused(20, k);
     unsigned v = s.variable[i], q = s.post[i];
     if (s.starts[v] != s.pre[i]) return three(15, k, v);
     for (unsigned at = s.place[i], end = s.end[i]; at < end; at += 3)
@@ -393,10 +412,10 @@ answer plain_draw(uint64_t seed, uint64_t count, uint8_t *ranks, size_t ranks_le
 }
 
 marrowkite_record plain_record_at(const uint8_t *file, size_t file_len, uint64_t at) {
-  static const uint8_t lengths[] = {1, 3, 2, 3, 4, 0};
+  static const uint8_t lengths[] = {1, 3, 2, 3, 4, 0, 1, 1};
   if (at >= file_len) return (marrowkite_record){1, 0, file_len, 0, file_len};
   unsigned kind = file[at];
-  if (kind - 1 > 5) return (marrowkite_record){2, 0, at, 0, at};
+  if (kind - 1 > 7) return (marrowkite_record){2, 0, at, 0, at};
   unsigned len = lengths[kind - 1];
   if (file_len - at - 1 < len) return (marrowkite_record){1, 0, at, 0, at};
   return (marrowkite_record){0, kind, at + 1, len, at + 1 + len};
@@ -407,30 +426,36 @@ typedef struct {
   const uint8_t *counts, *actions, *conditions, *tasks;
   size_t variables, actions_len, conditions_len, tasks_len;
   uint32_t seed;
+  uint8_t situation;
 } lists;
 
 /* What the reader says of the file that the lists stand for: 0 and its length, or the refusal. Where a record stands follows
  * from how many of each kind come before it. */
 PART answer judge(const lists *l) {
   uint16_t set[MOST_VARIABLES];
-  size_t n = l->variables, used = 0, i = 0, a = 0, t = 0;
+  size_t n = l->variables, used = 0, i = 0, a = 0, t = 0, repeat = 0;
+  if (l->situation > 7) return refused(5, 0);
+  size_t front = l->situation != 0 ? 2 : 0;
   for (size_t v = 0; v < n; v++) {
-    if (v == MOST_VARIABLES) return refused(4, 2 * v);
-    if (l->counts[v] - 2u > 14) return refused(5, 2 * v);
+    if (v == MOST_VARIABLES) return refused(4, front + 2 * v);
+    if (l->counts[v] - 2u > 14) return refused(5, front + 2 * v);
     set[v] = 0;
   }
-  if (n == 0) return refused(3, 0);
+  if (n == 0) return refused(3, front);
+  front += 2 * n;
   const uint8_t *counts = l->counts, *c = l->conditions;
-  for (; l->actions_len - i >= 4; i += 4) {
+  for (; l->actions_len - i >= 5; i += 5) {
     const uint8_t *entry = l->actions + i;
-    size_t place = 2 * n + 4 * a++;
+    size_t place = front + 4 * a++;
     if (a > MOST_ACTIONS) return refused(4, place + 3 * used / 2);
     unsigned v = entry[0], p = entry[1], q = entry[2], above = 0;
     if (v >= n || p >= counts[v] || q >= counts[v]) return refused(5, place + 3 * used / 2);
     if (p == q) return refused(6, place + 3 * used / 2);
-    if (set[v] >> q & 1) return refused(7, place + 3 * used / 2);
-    set[v] |= (uint16_t)(1u << q);
-    size_t end = used + 2 * (size_t)entry[3], lent = l->conditions_len & ~(size_t)1;
+    if (entry[3] >> l->situation & 1) {
+      if (set[v] >> q & 1 && repeat == 0) repeat = place + 3 * used / 2;
+      set[v] |= (uint16_t)(1u << q);
+    }
+    size_t end = used + 2 * (size_t)entry[4], lent = l->conditions_len & ~(size_t)1;
     if (end < lent) lent = end;
     for (; used < lent; used += 2) {
       unsigned u = c[used];
@@ -439,8 +464,9 @@ PART answer judge(const lists *l) {
       above = u + 1;
     }
     if (used < end) return refused(5, place + 4 + 3 * used / 2);
+    if (entry[3] != ALWAYS) front += 2;
   }
-  size_t at = 2 * n + 4 * a + 3 * used / 2;
+  size_t at = front + 4 * a + 3 * used / 2;
   if (i < l->actions_len || used < l->conditions_len) return refused(a == MOST_ACTIONS ? 4 : 5, at);
   for (i = 0; l->tasks_len - i >= 3; i += 3, at += 4, t++) {
     if (t == n) return refused(3, at);
@@ -450,6 +476,7 @@ PART answer judge(const lists *l) {
   if (i < l->tasks_len) return refused(t == n ? 3 : 5, at);
   if (t < n) return refused(3, at);
   if (l->seed - 1 >= LARGEST_SEED) return refused(5, at);
+  if (repeat != 0) return refused(7, repeat);
   return three(0, at + 6, 0);
 }
 
@@ -463,16 +490,18 @@ PART void put_eight(uint8_t *to, uint64_t word) { memcpy(to, &word, 8); }
  * end follow: the bytes too many are written over by the records behind. */
 PART void spell(const lists *l, uint8_t *to) {
   const uint8_t *c = l->conditions;
+  if (l->situation != 0) *to++ = SITUATION, *to++ = l->situation;
   for (size_t v = 0; v < l->variables; v++, to += 2) to[0] = VARIABLE, to[1] = l->counts[v];
-  for (size_t i = 0; i < l->actions_len; i += 4) {
+  for (size_t i = 0; i < l->actions_len; i += 5) {
     put_four(to, four_at(l->actions + i) << 8 | ACTION);
     to += 4;
-    const uint8_t *end = c + 2 * (size_t)l->actions[i + 3];
+    const uint8_t *end = c + 2 * (size_t)l->actions[i + 4];
     for (; end - c >= 4; c += 4, to += 6) {
       uint64_t word = four_at(c);
       put_eight(to, (word >> 16) << 32 | CONDITION << 24 | (word & 0xffff) << 8 | CONDITION);
     }
     for (; c < end; c += 2, to += 3) put_four(to, two_at(c) << 8 | CONDITION);
+    if (l->actions[i + 3] != ALWAYS) *to++ = SITUATIONS, *to++ = l->actions[i + 3];
   }
   for (size_t i = 0; i < l->tasks_len; i += 3, to += 4)
     to[0] = TASK, to[1] = l->tasks[i], to[2] = l->tasks[i + 1], to[3] = l->tasks[i + 2];
@@ -481,10 +510,10 @@ PART void spell(const lists *l, uint8_t *to) {
   to[5] = END;
 }
 
-answer plain_write(const uint8_t *variables, size_t variables_len, const uint8_t *actions, size_t actions_len,
-                   const uint8_t *conditions, size_t conditions_len, const uint8_t *tasks, size_t tasks_len, uint32_t seed,
-                   uint8_t *file, size_t file_len) {
-  lists l = {variables, actions, conditions, tasks, variables_len, actions_len, conditions_len, tasks_len, seed};
+answer plain_write(uint8_t situation, const uint8_t *variables, size_t variables_len, const uint8_t *actions,
+                   size_t actions_len, const uint8_t *conditions, size_t conditions_len, const uint8_t *tasks,
+                   size_t tasks_len, uint32_t seed, uint8_t *file, size_t file_len) {
+  lists l = {variables, actions, conditions, tasks, variables_len, actions_len, conditions_len, tasks_len, seed, situation};
   answer judged = judge(&l);
   if (judged.number != 0) return judged;
   if (file_len < judged.first) return refused(13, judged.first);

@@ -12,8 +12,8 @@ marrowkite_answer plain_run(const uint8_t *file, size_t file_len, const uint8_t 
                             size_t state_len);
 marrowkite_answer plain_draw(uint64_t seed, uint64_t count, uint8_t *ranks, size_t ranks_len);
 marrowkite_record plain_record_at(const uint8_t *file, size_t file_len, uint64_t at);
-marrowkite_answer plain_write(const uint8_t *variables, size_t variables_len, const uint8_t *actions, size_t actions_len,
-                              const uint8_t *conditions, size_t conditions_len, const uint8_t *tasks, size_t tasks_len,
-                              uint32_t seed, uint8_t *file, size_t file_len);
+marrowkite_answer plain_write(uint8_t situation, const uint8_t *variables, size_t variables_len, const uint8_t *actions,
+                              size_t actions_len, const uint8_t *conditions, size_t conditions_len, const uint8_t *tasks,
+                              size_t tasks_len, uint32_t seed, uint8_t *file, size_t file_len);
 
 #endif

@@ -13,14 +13,15 @@
  *
  *       the file
  *    1  it ends inside a record or before the end record          first: offset of that record, or the file length
- *    2  a record of unknown kind                                  first: offset of the record; so for 3 to 7
+ *    2  a record of unknown kind                                  first: offset of the record; so for 3 to 6
  *    3  a record of a known kind that may not stand here
  *    4  a 33rd variable, a 257th action
  *    5  a value count that is not 2 to 16; no such variable; a value too large; a task that is not the next
- *       variable's; a seed that is not 1 to 2,147,483,646
+ *       variable's; a seed that is not 1 to 2,147,483,646; a situation above 7
  *    6  an action whose pre equals its post; a condition on the action's own variable; a condition whose variable
- *       is not above that of the condition before it
- *    7  an earlier action sets the same variable to the same value
+ *       is not above that of the condition before it; a written situation of 0; a written set of all eight
+ *    7  an action in force sets what an earlier one in force sets first: offset of the earliest such action; told at
+ *                                                                 the end record, after every other fault but 8
  *    8  a byte follows the end record                             first: its offset
  *
  *       the rank list
@@ -40,6 +41,7 @@
  *
  *       the plan that is to be run
  *   14  an entry is no action's number                            first: its index in the plan
+ *   20  the action is out of force (tested before 15)             first: its index in the plan
  *   15  the action may not be done                                first: the index; second: the action's own variable
  *                                                                 if pre fails, else the lowest variable whose
  *                                                                 condition fails
@@ -70,13 +72,13 @@
  *
  * At most, in bytes, whatever the arguments; the tests hold every call that they make to it:
  *
- *   marrowkite_check          2,944
- *   marrowkite_plan           5,504
- *   marrowkite_plan_seeded    5,504
- *   marrowkite_run            3,584
+ *   marrowkite_check          2,560
+ *   marrowkite_plan           5,376
+ *   marrowkite_plan_seeded    5,376
+ *   marrowkite_run            3,200
  *   marrowkite_draw             128
  *   marrowkite_record_at        128
- *   marrowkite_write            896
+ *   marrowkite_write            640
  */
 #ifndef MARROWKITE_H
 #define MARROWKITE_H
@@ -94,7 +96,8 @@ typedef struct { uint64_t number, first, second; } marrowkite_answer;
 typedef struct { uint64_t number, kind, start, len, next; } marrowkite_record;
 
 /*
- * Checks a file: 1 to 8. The first faulty record decides, and its faults are looked for in the order 2, 3, 1, 4, 5, 6, 7.
+ * Checks a file: 1 to 8. The first faulty record decides, and its faults are looked for in the order 2, 3, 1, 4, 5, 6; the
+ * end record tells 7, then 8.
  * Done: first is how many actions the file has, second how many variables.
  */
 marrowkite_answer marrowkite_check(const uint8_t *file, size_t file_len);
@@ -114,8 +117,8 @@ marrowkite_answer marrowkite_plan(const uint8_t *file, size_t file_len, const ui
 marrowkite_answer marrowkite_plan_seeded(const uint8_t *file, size_t file_len, uint8_t *plan, size_t plan_len);
 
 /*
- * Runs a plan from the file's start: 1 to 8, then 13, then step by step 14, 15, 16, then 17. 0 exactly if the list is a
- * straight plan.
+ * Runs a plan from the file's start: 1 to 8, then 13, then step by step 14, 20, 15, 16, then 17. 0 exactly if the list is
+ * a straight plan.
  * Done: first is how many variables the file has; their values in the end, which are the goal's, fill the first bytes
  * of `state`. 32 bytes are always enough.
  */
@@ -132,19 +135,21 @@ marrowkite_answer marrowkite_draw(uint64_t seed, uint64_t count, uint8_t *ranks,
 /*
  * The record at a place of any bytes, by its kind alone: whether it may stand there and what its body says is not
  * looked at.
- * Number 0: kind 1 to 6; the body is the `len` bytes of `file` from `start` on (0 to 4), and `next` is the place after.
+ * Number 0: kind 1 to 8; the body is the `len` bytes of `file` from `start` on (0 to 4), and `next` is the place after.
  * Number 2 (unknown kind) or 1 (the file ends inside the record, or at or before `at`): kind and len are 0, start and
  * next are `at`, or the file length if `at` is at or past the end.
  */
 marrowkite_record marrowkite_record_at(const uint8_t *file, size_t file_len, uint64_t at);
 
 /*
- * Writes the file that lists stand for. Their entries, in bytes:
+ * Writes the file that a situation, lists and a seed stand for. The lists' entries, in bytes:
  *
  *   variables    1   how many values it has
- *   actions      4   variable, pre, post, how many conditions
+ *   actions      5   variable, pre, post, set of situations, how many conditions
  *   conditions   2   variable, value: the actions take them in turn, each as many as it says
  *   tasks        3   variable, start, goal
+ *
+ * A situation of 0 and a set of 255, all eight situations, mean that no such record is written.
  *
  * What is missing stands for numbers of 255, and no record may have these, so it is refused and never passed over:
  * - An entry that is cut short has 255 for each of its numbers. Such an action takes all conditions that are left.
@@ -152,12 +157,12 @@ marrowkite_record marrowkite_record_at(const uint8_t *file, size_t file_len, uin
  * - Conditions that no action takes are those of one more action, 255, 255, 255.
  *
  * 3 to 7 as marrowkite_check answers for the file's bytes (first: the offset in them); then 13.
- * Done: first is the file's length; the file fills the first bytes of `file`. 25,030 bytes are always enough.
+ * Done: first is the file's length; the file fills the first bytes of `file`. 25,544 bytes are always enough.
  */
-marrowkite_answer marrowkite_write(const uint8_t *variables, size_t variables_len, const uint8_t *actions,
-                                   size_t actions_len, const uint8_t *conditions, size_t conditions_len,
-                                   const uint8_t *tasks, size_t tasks_len, uint32_t seed, uint8_t *file,
-                                   size_t file_len);
+marrowkite_answer marrowkite_write(uint8_t situation, const uint8_t *variables, size_t variables_len,
+                                   const uint8_t *actions, size_t actions_len, const uint8_t *conditions,
+                                   size_t conditions_len, const uint8_t *tasks, size_t tasks_len, uint32_t seed,
+                                   uint8_t *file, size_t file_len);
 
 #ifdef __cplusplus
 }

@@ -12,7 +12,7 @@ buffer afterwards):
     plan_seeded(file, buffer)
     run(file, steps, buffer)
     draw(seed, count, buffer)
-    write(variables, actions, conditions, tasks, seed, buffer)
+    write(situation, variables, actions, conditions, tasks, seed, buffer)
 
 record_at and check write nothing; their buffer afterwards is b"". `printed(input)` is what the program prints.
 `calls(seed, n)` yields n calls as (name, inputs), all but writes, and `writes(seed, n)` n writes; `answer(name, inputs)` is
@@ -30,11 +30,13 @@ from dataclasses import dataclass, field, replace
 
 sys.dont_write_bytecode = True
 
-VARIABLE, ACTION, CONDITION, TASK, SEED, END = 1, 2, 3, 4, 5, 6
-BODY_LENGTH = {VARIABLE: 1, ACTION: 3, CONDITION: 2, TASK: 3, SEED: 4, END: 0}
+VARIABLE, ACTION, CONDITION, TASK, SEED, END, SITUATIONS, SITUATION = 1, 2, 3, 4, 5, 6, 7, 8
+BODY_LENGTH = {VARIABLE: 1, ACTION: 3, CONDITION: 2, TASK: 3, SEED: 4, END: 0, SITUATIONS: 1, SITUATION: 1}
 MOST_VARIABLES, MOST_VALUES, MOST_ACTIONS = 32, 16, 256
 LARGEST_SEED = 2147483646
-LONGEST_FILE = 25030
+LONGEST_FILE = 25544
+MOST_SITUATION = 7
+ALWAYS = 255  # the set of all eight situations, which is not written
 
 # Planning tries every list if there are no more lists than this; the self-test tries many more.
 LISTS_TO_TRY = 300
@@ -46,6 +48,7 @@ class Action:
     pre: int
     post: int
     conditions: list = field(default_factory=list)  # (variable, value)
+    situations: int = ALWAYS  # bit s for situation s
 
 
 @dataclass
@@ -54,7 +57,9 @@ class Study:
     actions: list = field(default_factory=list)
     tasks: list = field(default_factory=list)  # by variable: (start, goal)
     seed: int = None
+    situation: int = 0
     ended: bool = False
+    places: list = field(default_factory=list, compare=False)  # of the actions' records, while a file is read
 
     def start(self, variable):
         return self.tasks[variable][0]
@@ -91,14 +96,17 @@ def record_at(file, at):
 
 
 def may_come(study, kind):
-    """Whether a record of this kind is allowed after what was read: one or more variables; any number of actions, each
-    followed by its conditions; one task for each variable; one seed; one end."""
+    """Whether a record of this kind is allowed after what was read: the situation or not; one or more variables; any number
+    of actions, each followed by its conditions and then its situations or not; one task for each variable; one seed; one
+    end. A situation of 0 and a set of all eight are refused where they stand, so they tell that none was read."""
     some_variable, some_action, some_task = bool(study.counts), bool(study.actions), bool(study.tasks)
     all_tasks = some_variable and len(study.tasks) == len(study.counts)
     return {
+        SITUATION: not some_variable and study.situation == 0,
         VARIABLE: not some_action and not some_task,
         ACTION: some_variable and not some_task,
-        CONDITION: some_action and not some_task,
+        CONDITION: some_action and not some_task and study.actions[-1].situations == ALWAYS,
+        SITUATIONS: some_action and not some_task and study.actions[-1].situations == ALWAYS,
         TASK: some_variable and not all_tasks,
         SEED: all_tasks and study.seed is None,
         END: study.seed is not None,
@@ -125,8 +133,6 @@ def fault_in_action(study, variable, pre, post):
         return 5
     if pre == post:
         return 6
-    if setter(study, variable, post) is not None:
-        return 7
     return 0
 
 
@@ -150,8 +156,18 @@ def fault_in_seed(study, seed):
     return 0 if 1 <= seed <= LARGEST_SEED else 5
 
 
+def fault_in_situations(study, situations):
+    return 6 if situations == ALWAYS else 0
+
+
+def fault_in_situation(study, situation):
+    if situation > MOST_SITUATION:
+        return 5
+    return 6 if situation == 0 else 0
+
+
 def fault_of_record(study, file, place):
-    """The fault, in the order 2, 3, 1, 4, 5, 6, 7, of the record at a place inside the file; 0 if it has none."""
+    """The fault, in the order 2, 3, 1, 4, 5, 6, of the record at a place inside the file; 0 if it has none."""
     kind = file[place]
     if kind not in BODY_LENGTH:
         return 2
@@ -171,6 +187,10 @@ def fault_of_record(study, file, place):
         return fault_in_task(study, *body)
     if kind == SEED:
         return fault_in_seed(study, int.from_bytes(body, "big"))
+    if kind == SITUATIONS:
+        return fault_in_situations(study, *body)
+    if kind == SITUATION:
+        return fault_in_situation(study, *body)
     return 0
 
 
@@ -186,8 +206,26 @@ def take(study, kind, body):
         study.tasks.append((body[1], body[2]))
     elif kind == SEED:
         study.seed = int.from_bytes(body, "big")
+    elif kind == SITUATIONS:
+        study.actions[-1].situations = body[0]
+    elif kind == SITUATION:
+        study.situation = body[0]
     else:
         study.ended = True
+
+
+def in_force(study, action):
+    return bool(action.situations >> study.situation & 1)
+
+
+def first_repeat(study):
+    """The earliest action in force that sets what an earlier one in force sets, or None."""
+    for number, action in enumerate(study.actions):
+        for earlier in study.actions[:number]:
+            same = (earlier.variable, earlier.post) == (action.variable, action.post)
+            if same and in_force(study, earlier) and in_force(study, action):
+                return number
+    return None
 
 
 def read(file):
@@ -202,7 +240,12 @@ def read(file):
             raise Refused(fault, place)
         (_, kind, start, length, after), _ = record_at(file, place)
         take(study, kind, file[start : start + length])
+        if kind == ACTION:
+            study.places.append(place)
         place = after
+    repeat = first_repeat(study)
+    if repeat is not None:
+        raise Refused(7, study.places[repeat])
     if place < len(file):
         raise Refused(8, place)
     return study
@@ -247,7 +290,7 @@ def straight_plans(study, lists_to_try):
             found.append(steps)
         for number, action in enumerate(study.actions):
             taken = (action.variable, action.post)
-            if may_be_done(state, action) and taken not in held:
+            if in_force(study, action) and may_be_done(state, action) and taken not in held:
                 try_list(steps + (number,), done(state, action), held | {taken})
 
     start = start_state(study)
@@ -264,9 +307,9 @@ def first_in_dictionary_order(plans, ranks):
 
 
 def setter(study, variable, value):
-    """The one action that sets the variable to the value, or None."""
+    """The one action in force that sets the variable to the value, or None."""
     for number, action in enumerate(study.actions):
-        if action.variable == variable and action.post == value:
+        if in_force(study, action) and (action.variable, action.post) == (variable, value):
             return number
     return None
 
@@ -462,13 +505,15 @@ def failing_variable(state, action):
 
 
 def end_state(study, steps):
-    """The state after all steps, which is the goal; raises Refused with 14 to 17."""
+    """The state after all steps, which is the goal; raises Refused with 14 to 17, or 20."""
     state = start_state(study)
     held = set(enumerate(state))
     for index, number in enumerate(steps):
         if number >= len(study.actions):
             raise Refused(14, index)
         action = study.actions[number]
+        if not in_force(study, action):
+            raise Refused(20, index)
         if not may_be_done(state, action):
             raise Refused(15, index, failing_variable(state, action))
         state = done(state, action)
@@ -518,26 +563,26 @@ def lent_actions(actions, conditions):
     """The actions, each with its conditions, that two lists of bytes stand for."""
     left = entries_in(conditions, 2)
     lent = []
-    for at in range(0, len(actions), 4):
-        entry = actions[at : at + 4]
-        variable, pre, post, many = entry if len(entry) == 4 else (UNLENT, UNLENT, UNLENT, len(left))
+    for at in range(0, len(actions), 5):
+        entry = actions[at : at + 5]
+        variable, pre, post, situations, many = entry if len(entry) == 5 else (UNLENT, UNLENT, UNLENT, ALWAYS, len(left))
         missing = [(UNLENT, UNLENT)] * (many - len(left))
-        lent.append(Action(variable, pre, post, left[:many] + missing))
+        lent.append(Action(variable, pre, post, left[:many] + missing, situations))
         left = left[many:]
     return lent + [Action(UNLENT, UNLENT, UNLENT, left)] * bool(left)
 
 
-def file_of_lists(variables, actions, conditions, tasks, seed):
+def file_of_lists(situation, variables, actions, conditions, tasks, seed):
     """The bytes that the lists stand for: the records one after another in the file's order. Nothing is tested."""
-    records = [bytes([VARIABLE, count]) for count in variables]
+    records = situation_records(situation) + [bytes([VARIABLE, count]) for count in variables]
     records += [record for action in lent_actions(actions, conditions) for record in action_records(action)]
     records += [bytes([TASK, *task]) for task in entries_in(tasks, 3)]
     return b"".join(records) + seed_record(seed) + bytes([END])
 
 
-def write(variables, actions, conditions, tasks, seed, buffer):
+def write(situation, variables, actions, conditions, tasks, seed, buffer):
     """Refused exactly as the reader refuses the bytes; then 13."""
-    file = file_of_lists(variables, actions, conditions, tasks, seed)
+    file = file_of_lists(situation, variables, actions, conditions, tasks, seed)
     try:
         read(file)
         return (0, len(file), 0), filled(buffer, file)
@@ -579,10 +624,16 @@ def printed(standard_input):
 # Files from studies. Nothing is tested: a study may be faulty.
 
 
+def situation_records(situation):
+    return [bytes([SITUATION, situation])] if situation else []
+
+
 def action_records(action):
-    return [bytes([ACTION, action.variable, action.pre, action.post])] + [
-        bytes([CONDITION, v, q]) for v, q in action.conditions
-    ]
+    return (
+        [bytes([ACTION, action.variable, action.pre, action.post])]
+        + [bytes([CONDITION, v, q]) for v, q in action.conditions]
+        + ([] if action.situations == ALWAYS else [bytes([SITUATIONS, action.situations])])
+    )
 
 
 def seed_record(seed):
@@ -591,7 +642,8 @@ def seed_record(seed):
 
 def records_of(study):
     return (
-        [bytes([VARIABLE, count]) for count in study.counts]
+        situation_records(study.situation)
+        + [bytes([VARIABLE, count]) for count in study.counts]
         + [record for action in study.actions for record in action_records(action)]
         + [bytes([TASK, v, start, goal]) for v, (start, goal) in enumerate(study.tasks)]
         + [seed_record(study.seed), bytes([END])]
@@ -603,10 +655,11 @@ def file_of(study):
 
 
 def lists_of(study):
-    """What `write` is given to write the study: variables, actions, conditions, tasks, seed."""
+    """What `write` is given to write the study: situation, variables, actions, conditions, tasks, seed."""
     return (
+        study.situation,
         bytes(study.counts),
-        bytes(byte for a in study.actions for byte in (a.variable, a.pre, a.post, len(a.conditions))),
+        bytes(byte for a in study.actions for byte in (a.variable, a.pre, a.post, a.situations, len(a.conditions))),
         bytes(byte for a in study.actions for condition in a.conditions for byte in condition),
         bytes(byte for v, (start, goal) in enumerate(study.tasks) for byte in (v, start, goal)),
         study.seed,
@@ -742,14 +795,45 @@ def anything(rng):
     return Study(counts, actions, tasks, some_seed(rng))
 
 
+def some_set(rng, situation, inside):
+    """A set of situations that has this one, or not; it may be any such set."""
+    bit = 1 << situation
+    others = rng.choice([0, ALWAYS, rng.randrange(256), 1 << rng.randrange(8)])
+    return others | bit if inside else others & ~bit
+
+
+def out_of_force_beside(rng, study, action):
+    """An action that sets what this one sets, or what it leaves, and is out of force."""
+    post = rng.choice([action.post, action.post, action.pre])
+    pre = rng.choice([q for q in range(study.counts[action.variable]) if q != post])
+    situations = some_set(rng, study.situation, False)
+    return Action(action.variable, pre, post, rng.choice([[], action.conditions]), situations)
+
+
+def in_a_situation(rng, study):
+    """The study in some situation: what it says is the same, but its actions have sets, and others are out of force."""
+    study.situation = rng.choice([0, 0, 1, 7, rng.randint(1, MOST_SITUATION)])
+    share = rng.choice([0, 0.3, 1])
+    for action in study.actions:
+        if rng.random() < share:
+            action.situations = some_set(rng, study.situation, True)
+    for action in rng.sample(study.actions, min(len(study.actions), rng.randint(0, 3), MOST_ACTIONS - len(study.actions))):
+        study.actions.insert(rng.randint(0, len(study.actions)), out_of_force_beside(rng, study, action))
+    if study.actions and rng.random() < 0.2:  # one that the plan may need
+        rng.choice(study.actions).situations = some_set(rng, study.situation, False)
+    return study
+
+
 def middling(rng):
     """Too large to try every list: some 20 to 60 steps."""
-    return rng.choice([solvable, solvable, ringed])(rng, 12, 9)
+    study = rng.choice([solvable, solvable, ringed])(rng, 12, 9)
+    return in_a_situation(rng, study) if rng.random() < 0.5 else study
 
 
 def small_study(rng):
     kinds = [solvable, without_walk, off_walk, ringed, anything]
-    return rng.choices(kinds, [5, 1, 1, 3, 2])[0](rng)
+    study = rng.choices(kinds, [5, 1, 1, 3, 2])[0](rng)
+    return in_a_situation(rng, study) if rng.random() < 0.5 else study
 
 
 # ---------------------------------------------------------------------------------------------------------------------
@@ -763,9 +847,13 @@ def study_of_rows(rng, counts, rows, share):
 
 
 def longest(rng):
-    """25,030 bytes: 256 actions, each with 31 conditions, all of them in the one straight plan."""
+    """25,544 bytes: a situation, and 256 actions, each with 31 conditions and its set, all of them in the one straight plan."""
     rows = [rng.sample(range(16), 9) for _ in range(32)]
-    return study_of_rows(rng, [16] * 32, rows, 1)
+    study = study_of_rows(rng, [16] * 32, rows, 1)
+    study.situation = rng.randint(1, MOST_SITUATION)
+    for action in study.actions:
+        action.situations = 1 << study.situation | rng.choice([0, 1])
+    return study
 
 
 def longest_with_ring(rng):
@@ -894,11 +982,14 @@ BYTE_DAMAGE = [with_byte_changed, with_byte_changed, with_byte_inserted, with_by
 
 def telling_record(rng, study):
     """A record of any kind whose numbers are near those that the study has."""
-    kind = rng.choice([VARIABLE, ACTION, ACTION, ACTION, CONDITION, CONDITION, CONDITION, TASK, TASK, SEED, END])
+    kinds = [VARIABLE, ACTION, ACTION, ACTION, CONDITION, CONDITION, CONDITION, TASK, TASK, SEED, END]
+    kind = rng.choice(kinds + [SITUATIONS, SITUATIONS, SITUATIONS, SITUATION])
     if kind == SEED:
         return bytes([kind]) + rng.choice(BAD_SEEDS + [1, LARGEST_SEED]).to_bytes(4, "big")
     variables = len(study.counts)
     near = [0, 1, 2, 3, variables - 1, variables, *study.counts, some_byte(rng)]
+    if kind in (SITUATIONS, SITUATION):
+        near = [0, 1, 7, 8, 254, ALWAYS, some_byte(rng)]
     return bytes([kind] + [rng.choice(near) for _ in range(BODY_LENGTH[kind])])
 
 
@@ -925,9 +1016,11 @@ def with_records_damaged(rng, study):
 
 
 def give_named_fault(rng, study):
-    """One of the faults that documents name: in values, order of conditions, own variable, repeated post, task or seed."""
-    way = rng.randrange(8)
-    if way == 0:
+    """One of the faults that documents name: in values, order of conditions, own variable, repeated post, task, seed or situation."""
+    way = rng.randrange(9)
+    if way == 8:
+        study.situation = rng.choice([8, 9, 128, 255])
+    elif way == 0:
         study.seed = rng.choice(BAD_SEEDS)
     elif way == 1:
         study.counts[rng.randrange(len(study.counts))] = rng.choice([0, 1, 17, 255])
@@ -943,7 +1036,8 @@ def give_named_fault(rng, study):
         elif way == 5:
             action.conditions.append((action.variable, rng.choice([action.pre, study.counts[action.variable]])))
         elif way == 6:
-            twin = replace(action, pre=rng.randrange(study.counts[action.variable]), conditions=[])
+            situations = rng.choice([action.situations, ALWAYS, rng.randrange(256)])
+            twin = replace(action, pre=rng.randrange(study.counts[action.variable]), conditions=[], situations=situations)
             study.actions.insert(rng.randint(0, len(study.actions)), twin)
         else:
             action.pre = rng.choice([action.post, study.counts[action.variable]])
@@ -1041,11 +1135,13 @@ def steps_at_random(rng, study):
     state = start_state(study)
     steps = []
     for _ in range(rng.randint(0, 8)):
-        ready = [number for number, action in enumerate(study.actions) if may_be_done(state, action)]
+        ready = [number for number, a in enumerate(study.actions) if in_force(study, a) and may_be_done(state, a)]
         if not ready:
             break
         steps.append(rng.choice(ready))
         state = done(state, study.actions[steps[-1]])
+    if rng.random() < 0.1:
+        steps += [number for number, a in enumerate(study.actions) if not in_force(study, a)][:1]
     barred = [number for number, a in enumerate(study.actions) if state[a.variable] == a.pre and not may_be_done(state, a)]
     if barred and rng.random() < 0.4:
         steps.append(rng.choice(barred))
@@ -1201,32 +1297,32 @@ def damaged_lists(rng):
     """Bytes of one or two lists changed, put in or left out: entries that are cut, conditions missing or left over."""
     lists = lists_of(small_study(rng))
     for _ in range(rng.choice([1, 1, 2])):
-        lists = with_list_damaged(rng, lists, rng.randrange(4), BYTE_DAMAGE)
+        lists = with_list_damaged(rng, lists, rng.randrange(1, 5), BYTE_DAMAGE)
     return lists
 
 
 def cut_lists(rng):
     """A last entry that is cut, or conditions left over or missing, and no other fault."""
     lists = lists_of(small_study(rng))
-    which = rng.randrange(1, 4)
+    which = rng.randrange(2, 5)
     return with_list_damaged(rng, lists, which, [cut, lambda rng, data: data + data[: rng.randint(1, len(data))]])
 
 
 def lists_with_many(rng):
     """An action that announces more conditions than there are variables, whether they are lent or not."""
-    variables, actions, conditions, tasks, seed = lists_of(small_study(rng))
-    at = rng.randint(0, len(actions) // 4) * 4
+    situation, variables, actions, conditions, tasks, seed = lists_of(small_study(rng))
+    at = rng.randint(0, len(actions) // 5) * 5
     many = rng.choice([1, 31, 32, 33, 254, 255])
     lent = rng.choice([0, 2 * many - 1, 2 * many, 2 * many + 2])
     more = bytes(rng.randrange(3) for _ in range(lent))
-    entry = bytes([rng.randrange(len(variables)), 0, 1, many])
-    return variables, actions[:at] + entry + actions[at:], conditions + more, tasks, seed
+    entry = bytes([rng.randrange(len(variables)), 0, 1, rng.choice([0, 1, ALWAYS]), many])
+    return situation, variables, actions[:at] + entry + actions[at:], conditions + more, tasks, seed
 
 
 def lists_without(rng):
     """Some lists empty."""
     lists = list(lists_of(small_study(rng)))
-    for which in rng.sample(range(4), rng.randint(1, 4)):
+    for which in rng.sample(range(1, 5), rng.randint(1, 4)):
         lists[which] = b""
     return tuple(lists)
 
@@ -1250,18 +1346,18 @@ def lists_beyond_limits(rng):
     if way == 3:
         action = rng.choice(study.actions)
         action.conditions.append(rng.choice([(31, 1), (32, 0), (action.variable, 1), (0, 2)]))
-    variables, actions, conditions, tasks, seed = lists_of(study)
+    situation, variables, actions, conditions, tasks, seed = lists_of(study)
     if way == 2:
-        cut_or_left = rng.choice([(b"\0", b""), (b"\0\0\1", b"\0\0"), (b"", b"\0"), (b"", b"\0\0")])
-        return variables, actions + cut_or_left[0], conditions + cut_or_left[1], tasks, seed
-    return variables, actions, conditions, tasks, seed
+        cut_or_left = rng.choice([(b"\0", b""), (b"\0\0\1\1", b"\0\0"), (b"", b"\0"), (b"", b"\0\0")])
+        return situation, variables, actions + cut_or_left[0], conditions + cut_or_left[1], tasks, seed
+    return situation, variables, actions, conditions, tasks, seed
 
 
 def any_lists(rng):
     """Bytes of any kind."""
     most = rng.choice([4, 12, 300])
     lists = (bytes(some_byte(rng) for _ in range(rng.randint(0, most))) for _ in range(4))
-    return (*lists, rng.choice([*BAD_SEEDS, 1, LARGEST_SEED, rng.randrange(2**32)]))
+    return (rng.choice([0, some_byte(rng)]), *lists, rng.choice([*BAD_SEEDS, 1, LARGEST_SEED, rng.randrange(2**32)]))
 
 
 def writes(seed, n):
@@ -1368,12 +1464,12 @@ def worked_cases():
 
 def worked_writes():
     """Writes worked by hand: the lists, the buffer's length, the three numbers. In hexadecimal: variables, actions, conditions
-    and tasks."""
-    variables, actions = "020302", "00000100 01000100 01010202 02000102 00010000"
+    and tasks; before them the situation."""
+    variables, actions = "020302", "000001ff00 010001ff00 010102ff02 020001ff02 000100ff00"
     conditions, tasks = "0001 0201 0001 0101", "000001 010002 020001"
 
-    def porter_with(v=variables, a=actions, c=conditions, t=tasks, seed=1):
-        return v, a, c, t, seed
+    def porter_with(v=variables, a=actions, c=conditions, t=tasks, seed=1, situation=0):
+        return situation, v, a, c, t, seed
 
     yield porter_with(), 56, (0, 56, 0)
     yield porter_with(), 60, (0, 56, 0)
@@ -1384,29 +1480,46 @@ def worked_writes():
     for seed in BAD_SEEDS:
         yield porter_with(seed=seed), 0, (5, 50, 0)
     # 3: where a record stands that may not come
-    yield ("", "", "", "", 1), 9, (3, 0, 0)
-    yield ("", actions, conditions, tasks, 1), 9, (3, 0, 0)
-    yield ("", "", "0001", "", 1), 9, (3, 0, 0)
-    yield ("", "", "", tasks, 1), 9, (3, 0, 0)
+    for situation, place in ((0, 0), (7, 2)):
+        yield (situation, "", "", "", "", 1), 9, (3, place, 0)
+        yield (situation, "", actions, conditions, tasks, 1), 9, (3, place, 0)
+        yield (situation, "", "", "0001", "", 1), 9, (3, place, 0)
+        yield (situation, "", "", "", tasks, 1), 9, (3, place, 0)
     yield porter_with(t=""), 99, (3, 38, 0)
     yield porter_with(t="000001 010002"), 99, (3, 46, 0)
     yield porter_with(t="000001 010002 020001 030001"), 99, (3, 50, 0)
     yield porter_with(t="000001 010002 020001 02"), 99, (3, 50, 0)
     # 4, 5, 6, 7
-    yield ("02" * 33, "", "", "", 1), 0, (4, 64, 0)
-    yield ("02" * 32 + "00", "", "", "", 1), 0, (4, 64, 0)
+    yield (0, "02" * 33, "", "", "", 1), 0, (4, 64, 0)
+    yield (1, "02" * 33, "", "", "", 1), 0, (4, 66, 0)
+    yield (0, "02" * 32 + "00", "", "", "", 1), 0, (4, 64, 0)
+    yield porter_with(situation=8), 56, (5, 0, 0)
+    yield (255, "", "", "", "", 0), 0, (5, 0, 0)
     yield porter_with(v="020102"), 56, (5, 2, 0)
     yield porter_with(v="021102"), 56, (5, 2, 0)
     yield porter_with(v="02"), 56, (5, 6, 0)
-    yield porter_with(a=actions.replace("01010202", "01010302")), 56, (5, 14, 0)
+    yield porter_with(a=actions.replace("010102ff", "010103ff")), 56, (5, 14, 0)
     yield porter_with(c="0001 0201 0001 0103"), 56, (5, 31, 0)
     yield porter_with(c="0001 0301 0001 0101"), 56, (5, 21, 0)
     yield porter_with(t="010002 000001 020001"), 56, (5, 38, 0)
     yield porter_with(t="000001 010003 020001"), 56, (5, 42, 0)
-    yield porter_with(a=actions.replace("01010202", "01010102")), 56, (6, 14, 0)
+    yield porter_with(a=actions.replace("010102ff", "010101ff")), 56, (6, 14, 0)
     yield porter_with(c="0201 0001 0001 0101"), 56, (6, 21, 0)
     yield porter_with(c="0001 0101 0001 0101"), 56, (6, 21, 0)
-    yield porter_with(a=actions.replace("00010000", "00000100")), 56, (7, 34, 0)
+    twice = actions.replace("000100ff", "000001ff")
+    yield porter_with(a=twice), 56, (7, 34, 0)
+    yield porter_with(a=twice, seed=0), 56, (5, 50, 0)  # 7 is the end record's
+    yield porter_with(a=twice, t="000001 010002"), 56, (3, 46, 0)
+    # situations: written or not, in force or not
+    yield porter_with(situation=3), 58, (0, 58, 0)
+    yield porter_with(situation=3), 57, (13, 58, 0)
+    yield porter_with(a=actions.replace("ff", "00")), 66, (0, 66, 0)
+    yield porter_with(a=actions.replace("ff", "fe")), 66, (0, 66, 0)
+    for situation, numbers in ((0, (7, 36, 0)), (1, (0, 60, 0)), (2, (0, 60, 0))):
+        yield porter_with(a=twice.replace("000001ff", "00000101", 1), situation=situation), 60, numbers
+    apart = "000001fc00 010001ff00 010102ff02 020001ff02 0000010400"
+    for situation, numbers in ((0, (0, 60, 0)), (1, (0, 62, 0)), (2, (7, 38, 0))):
+        yield porter_with(a=apart, situation=situation), 62, numbers
     # entries that are cut, conditions that are missing, conditions that are left over
     yield porter_with(a=actions + "00"), 56, (5, 38, 0)
     yield porter_with(a=actions[:-2]), 56, (5, 34, 0)
@@ -1417,12 +1530,12 @@ def worked_writes():
     yield porter_with(c=conditions + "0001"), 56, (5, 38, 0)
     yield porter_with(a=""), 56, (5, 6, 0)
     yield porter_with(t="000001 010002 0200"), 56, (5, 46, 0)
-    yield porter_with(a=actions.replace("00010000", "000100ff")), 56, (5, 38, 0)
+    yield porter_with(a=actions.replace("000100ff00", "000100ffff")), 56, (5, 38, 0)
 
 
 def inputs_of_worked_write(lists, length):
-    *digits, seed = lists
-    return (*map(bytes.fromhex, digits), seed, b"\xaa" * length)
+    situation, *digits, seed = lists
+    return (situation, *map(bytes.fromhex, digits), seed, b"\xaa" * length)
 
 
 def test_worked_writes():
@@ -1435,10 +1548,10 @@ def test_worked_writes():
     assert write(*lists_of(read(PORTER)), bytes(56)) == ((0, 56, 0), PORTER)
     assert write(*lists_of(read(PORTER)), b"\xaa" * 58) == ((0, 56, 0), PORTER + b"\xaa" * 2)
     crowded, seventeen = crowded_with_actions(), bytes([16] * 17)
-    setters = bytes(byte for v in range(16) for q in range(16) for byte in (v, (q + 1) % 16, q, 0))
-    assert file_of_lists(seventeen, setters, b"", b"", 1)[: len(crowded)] == crowded
-    for actions, conditions, number in ((b"\x10\0\1\0", b"", 4), (b"\0", b"", 4), (b"", b"\0\0", 4), (b"", b"", 3)):
-        given = write(seventeen, setters + actions, conditions, b"", 1, b"")[0]
+    setters = bytes(byte for v in range(16) for q in range(16) for byte in (v, (q + 1) % 16, q, ALWAYS, 0))
+    assert file_of_lists(0, seventeen, setters, b"", b"", 1)[: len(crowded)] == crowded
+    for actions, conditions, number in ((b"\x10\0\1\xff\0", b"", 4), (b"\0", b"", 4), (b"", b"\0\0", 4), (b"", b"", 3)):
+        given = write(0, seventeen, setters + actions, conditions, b"", 1, b"")[0]
         assert given == (number, 1058, 0), (actions, conditions, given)
     return f"{len(cases)} writes worked by hand: agreed"
 
@@ -1473,8 +1586,8 @@ def file_cases():
     crowd = "0102" * 32
     yield "", (1, 0, 0)
     yield "00", (2, 0, 0)
-    yield "07", (2, 0, 0)
-    for kind in ("02", "03", "04", "05", "06"):
+    yield "09", (2, 0, 0)
+    for kind in ("02", "03", "04", "05", "06", "07"):
         yield kind, (3, 0, 0)  # cut, or an end: 3 comes before 1
     yield "01", (1, 0, 0)
     yield "0101", (5, 0, 0)
@@ -1491,9 +1604,36 @@ def file_cases():
     yield one + "02000202", (5, 2, 0)  # .. and equal: 5 comes before 6
     yield one + "02000101", (6, 2, 0)
     yield one + go + "0102", (3, 6, 0)  # a variable after an action
-    yield one + go + go, (7, 6, 0)
-    yield one + go + "02000101", (6, 6, 0)  # pre equals a repeated post: 6 comes before 7
-    yield three_values + go + "02000201", (7, 10, 0)  # from another pre
+    yield one + go + go, (1, 10, 0)  # 7 is decided at the end record
+    yield one + go + go + "04000001 0500000001 06", (7, 6, 0)
+    yield one + go + go + "04000001 0500000001 06 00", (7, 6, 0)  # .. before 8
+    yield one + go + go + "04000001 0500000000 06", (5, 14, 0)  # .. and after every fault of a record
+    yield one + go + "02000101", (6, 6, 0)
+    yield three_values + go + "02000201 04000001 04010001 04020001 0500000001 06", (7, 10, 0)  # from another pre
+    # situations
+    yield "08", (1, 0, 0)
+    yield "0800", (6, 0, 0)
+    yield "0808", (5, 0, 0)
+    yield "08ff", (5, 0, 0)
+    yield "0801", (1, 2, 0)
+    yield "0801 0801", (3, 2, 0)
+    yield "0801 0701", (3, 2, 0)
+    yield "0801 02", (3, 2, 0)
+    yield "0102 0801", (3, 2, 0)
+    yield "0807" + two + rest, (0, 0, 2)
+    yield one + "0701", (3, 2, 0)  # before any action
+    yield one + go + "07", (1, 6, 0)
+    yield one + go + "07ff", (6, 6, 0)
+    yield one + go + "0701 0701", (3, 8, 0)
+    yield one + go + "0700 0700", (3, 8, 0)  # a set of no situation is a set
+    yield two + go + "0701 030100", (3, 10, 0)  # a condition after the set
+    yield two + go + "030100 0701 030100", (3, 13, 0)
+    yield two + go + "030100 0701" + rest, (0, 1, 2)
+    yield two + "04000001 0701", (3, 8, 0)
+    for situation, numbers in (("", (7, 10, 0)), ("0801", (0, 2, 2)), ("0802", (7, 12, 0))):  # in force: both, the second, both
+        yield situation + two + go + "0705" + go + "0707" + rest, numbers
+    yield two + go + "07fe" + go + "07fe" + go + "07fe" + rest, (0, 3, 2)  # none in force in situation 0
+    yield "0801" + two + go + "0701" + go + go + "07fe" + go + rest, (7, 16, 0)  # the first that repeats one in force
     yield two + go + "030100 030100", (6, 11, 0)  # the same variable again
     yield two + go + "030000", (6, 8, 0)  # its own variable
     yield two + go + "030002", (5, 8, 0)  # .. with a value too large
@@ -1632,7 +1772,7 @@ ANSWERS_TO_MEET = {
     "check": set(range(9)),
     "plan": set(range(14)),
     "plan_seeded": set(range(14)) - {9},
-    "run": set(range(9)) | {13, 14, 15, 16, 17},
+    "run": set(range(9)) | {13, 14, 15, 16, 17, 20},
     "draw": {0, 13, 18, 19},
     "write": {0, 3, 4, 5, 6, 7, 13},
 }

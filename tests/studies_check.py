@@ -31,6 +31,7 @@ FIRST_LINES = {
     "horse-breeder": "refused 11 5 1",
     "horse-breeder-fed": "plan 2",
     "hotel": "plan 20",
+    "night-porter": "plan 6",
     "no-walk": "refused 10 1 0",
     "off-walk": "refused 11 1 2",
     "ring": "refused 12 1 0",
@@ -38,7 +39,7 @@ FIRST_LINES = {
 }
 
 # The studies whose plans are stored in words too.
-IN_WORDS = ["porter", "hotel"]
+IN_WORDS = ["porter", "hotel", "night-porter"]
 
 HEAD = "variables\n  a: x, y\n  b: x, y, z\nactions\n"
 TAIL = "tasks\n  a x -> y\n  b x -> z\nseed 5\n"
@@ -67,6 +68,19 @@ MISTAKES = {
     HEAD + TAIL.replace("seed 5\n", ""): (7, "no seed"),
     HEAD + TAIL.replace("5", "4294967296"): (8, "four bytes"),
     HEAD + TAIL.replace("5", "five"): (8, "four bytes"),
+    "situations\n": (1, "':'"),
+    "situations:\n": (1, "one to eight"),
+    "situations: a, b, a\n": (1, "already"),
+    "situations: a, b, c, d, e, f, g, h, i\n": (1, "one to eight"),
+    "situation 8\n": (1, "no situation '8'"),
+    "situations: day, night\nsituation 1\n": (2, "no situation '1'"),
+    "situation 1\nsituations: day, night\n": (2, "comes after"),
+    "situation 1\nsituation 1\n": (2, "comes after"),
+    HEAD + "situation 1\n": (5, "':'"),
+    HEAD + "  go: a x -> y during\n" + TAIL: (5, "situation's name"),
+    HEAD + "  go: a x -> y during 1 2\n" + TAIL: (5, "','"),
+    HEAD + "  go: a x -> y during noon\n" + TAIL: (5, "no situation 'noon'"),
+    HEAD + "  go: a x -> y never when b = x\n" + TAIL: (5, "nothing should come"),
 }
 
 MANY_VARIABLES = "variables\n" + "".join(f"  a{v}: x, y\n" for v in range(33))
@@ -91,12 +105,19 @@ REFUSALS = {
     HEAD + "  go: a x -> y when a = x\n" + TAIL: (5, (6, 8, 0), "own variable"),
     HEAD + "  go: a x -> y when b = x, b = y\n" + TAIL: (5, (6, 11, 0), "same variable"),
     HEAD + GO + "\n  back: b x -> y\n  come: b z -> y\n" + TAIL: (8, (7, 15, 0), "earlier action"),
+    HEAD + GO + "  back: b x -> y during 0, 1\n  come: b z -> y\n" + TAIL: (7, (7, 17, 0), "in this situation"),
+    "situation 2\n" + HEAD + "  go: b x -> y during 1\n  back: b x -> y\n  come: b z -> y during 2\n" + TAIL: (
+        8,
+        (7, 16, 0),
+        "in this situation",
+    ),
 }
 
 PORTER_NAMES = {
     "variables": ["pass", "cart", "ride"],
     "values": [["desk", "worn"], ["store", "lobby", "landing"], ["none", "booked"]],
     "actions": ["take-pass", "fetch-cart", "ride-up", "book-ride", "return-pass"],
+    "situations": [str(number) for number in range(8)],
 }
 
 passed = failed = 0
@@ -147,7 +168,8 @@ def in_words(name):
     """What bin/plan --names prints for a study that has a plan: behind each step its action as the table has it, without the
     conditions. It is taken from the table's lines and shares nothing with bin/make-study."""
     part = stored(name, ".study").decode().split("\nactions\n")[1].split("\ntasks\n")[0]
-    actions = [" ".join(line.split(" when ")[0].split()) for line in part.splitlines() if line.strip()]
+    lines = [line.split(" when ")[0].split(" during ")[0] for line in part.splitlines() if line.strip()]
+    actions = [" ".join(line.split()) for line in lines]
     first, *steps = stored(name, ".out").decode().splitlines()
     return "".join(f"{line}\n" for line in [first] + [f"{step}  {actions[int(step.split()[1])]}" for step in steps])
 
@@ -198,6 +220,19 @@ def check_particulars():
     expect(len(firsts) > 10, f"20 seeds give the hotel {len(firsts)} plans only")
 
 
+def check_night_porter():
+    """By day and by night one table, the situation's record apart: both have a plan, and the loading differs."""
+    table = STUDIES / "night-porter.study"
+    by_night, by_day = stored("night-porter", ".bin"), command(table, "--situation", "day", "-o", "-").stdout
+    expect(by_night == b"\x08\x01" + by_day, "by day and by night more differs than the situation")
+    steps = [oracle.plan_seeded(data, bytes(16)) for data in (by_night, by_day)]
+    expect([numbers for numbers, _ in steps] == [(0, 6, 0)] * 2, f"the night porter: {steps}")
+    night, day = (set(plan[:6]) for _, plan in steps)
+    expect((night - day, day - night) == ({4}, {3}), "the cart is not loaded from the store by night, at the dock by day")
+    for situation in ("noon", "2", ""):
+        expect(command(table, "--situation", situation, "-o", "-").returncode == 1, f"a situation '{situation}'")
+
+
 def check_mistakes(make_study):
     for text, (line, word) in MISTAKES.items():
         try:
@@ -231,12 +266,13 @@ def check_refused_lines(make_study):
     while told < 40:
         faulty = oracle.small_study(rng)
         oracle.give_named_fault(rng, faulty)
-        text = make_study.table_of(make_study.study_of_bytes(oracle.file_of(faulty)))
         try:
+            text = make_study.table_of(make_study.study_of_bytes(oracle.file_of(faulty)))
             study = make_study.study_of_table(text, "T")
         except make_study.Mistake:
             continue
-        lists = *map(bytes, make_study.lists_of(make_study.entries_of(study))), study.seed
+        situation, *lists = map(bytes, make_study.lists_of(make_study.entries_of(study)))
+        lists = situation[0], *lists, study.seed
         numbers, _ = oracle.write(*lists, bytes(1000))
         if numbers[0] == 0:
             continue
@@ -247,9 +283,10 @@ def check_refused_lines(make_study):
         said = told_of(make_study, text)
         line = text.splitlines().index("seed %d" % study.seed)
         if file[at] == oracle.VARIABLE:
-            line = 1 + before[oracle.VARIABLE]
+            line = 1 + before[oracle.VARIABLE] + before[oracle.SITUATION]
         elif file[at] in (oracle.ACTION, oracle.CONDITION):
             line = 2 + before[oracle.VARIABLE] + before[oracle.ACTION] - (file[at] == oracle.CONDITION)
+            line += before[oracle.SITUATION]
         elif file[at] == oracle.TASK:
             line = study.tasks[before[oracle.TASK]].line - 1
         expect(str(said).startswith("T:%d: refused %d %d %d: " % (line + 1, *numbers)), f"{numbers}: {said!r} of {text!r}")
@@ -319,6 +356,7 @@ def main():
         attempt(check_words, name)
     attempt(check_folder)
     attempt(check_particulars)
+    attempt(check_night_porter)
     make_study = make_study_module()
     for check in (check_mistakes, check_refusals, check_refused_lines, check_order, check_shows):
         attempt(check, make_study)

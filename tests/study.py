@@ -1,12 +1,14 @@
-"""Study files, by document 01's text alone: what our programs' outputs are compared with, so nothing here is taken from their code."""
+"""Study files, by the text of documents 01 and 02 alone: what our programs' outputs are compared with, so nothing here is taken from their code."""
 
 from dataclasses import dataclass, field
 
-VARIABLE, ACTION, CONDITION, TASK, SEED, END = range(1, 7)
-BODY_LENGTHS = {VARIABLE: 1, ACTION: 3, CONDITION: 2, TASK: 3, SEED: 4, END: 0}
+VARIABLE, ACTION, CONDITION, TASK, SEED, END, SITUATIONS, SITUATION = range(1, 9)
+BODY_LENGTHS = {VARIABLE: 1, ACTION: 3, CONDITION: 2, TASK: 3, SEED: 4, END: 0, SITUATIONS: 1, SITUATION: 1}
 MOST_VARIABLES = 32
 MOST_ACTIONS = 256
 LARGEST_SEED = 2147483646
+MOST_SITUATION = 7
+ALL_EIGHT = 255
 
 PORTER = bytes.fromhex(
     "01 02 01 03 01 02 02 00 00 01 02 01 00 01 02 01 01 02 03 00 01 03 02 01 02 02 00 01 03 00 01 03 01 01 02 00 01 00"
@@ -20,6 +22,8 @@ class Action:
     pre: int
     post: int
     conditions: list = field(default_factory=list)  # (variable, value), in rising order of variable
+    situations: int = ALL_EIGHT  # the set's byte
+    place: int = field(default=0, compare=False)  # of its record, in a file that was read
 
 
 @dataclass
@@ -29,6 +33,10 @@ class Study:
     starts: list = field(default_factory=list)  # by variable
     goals: list = field(default_factory=list)
     seed: int = 0
+    situation: int = 0
+
+    def in_force(self, action):
+        return action.situations & 2**self.situation != 0
 
 
 class Refused(Exception):
@@ -57,17 +65,21 @@ def record_at(data, at):
     return 0, kind, start, after - start, after
 
 
-# A file: records are tested one by one, each in the order 2, 3, 1, 4, 5, 6, 7.
+# A file: records are tested one by one, each in the order 2, 3, 1, 4, 5, 6; at the end record 7, then 8.
 
 
 def kinds_allowed(study, last):
     """The kinds that may come after a record of kind last (None: at the file's start)."""
     if last is None:
+        return {SITUATION, VARIABLE}
+    if last == SITUATION:
         return {VARIABLE}
     if last == VARIABLE:
         return {VARIABLE, ACTION, TASK}
     if last in (ACTION, CONDITION):
-        return {ACTION, CONDITION, TASK}
+        return {ACTION, CONDITION, SITUATIONS, TASK}
+    if last == SITUATIONS:
+        return {ACTION, TASK}
     if last == TASK:
         return {TASK} if len(study.starts) < len(study.counts) else {SEED}
     return {END}
@@ -78,7 +90,7 @@ def has_value(study, variable, value):
 
 
 def take_variable(study, count):
-    """Each take_ function answers the fault, 4 to 7, or else 0 with the record taken into the study."""
+    """Each take_ function answers the fault, 4 to 6, or else 0 with the record taken into the study."""
     if len(study.counts) == MOST_VARIABLES:
         return 4
     if not 2 <= count <= 16:
@@ -94,8 +106,6 @@ def take_action(study, variable, pre, post):
         return 5
     if pre == post:
         return 6
-    if any((a.variable, a.post) == (variable, post) for a in study.actions):
-        return 7
     study.actions.append(Action(variable, pre, post))
     return 0
 
@@ -134,6 +144,22 @@ def take_end(study):
     return 0
 
 
+def take_situations(study, byte):
+    if byte == ALL_EIGHT:
+        return 6
+    study.actions[-1].situations = byte
+    return 0
+
+
+def take_situation(study, number):
+    if number > MOST_SITUATION:
+        return 5
+    if number == 0:
+        return 6
+    study.situation = number
+    return 0
+
+
 TAKE = {
     VARIABLE: take_variable,
     ACTION: take_action,
@@ -141,6 +167,8 @@ TAKE = {
     TASK: take_task,
     SEED: take_seed,
     END: take_end,
+    SITUATIONS: take_situations,
+    SITUATION: take_situation,
 }
 
 
@@ -163,11 +191,23 @@ def read(data):
         fault = TAKE[kind](study, *data[at + 1 : after])
         if fault:
             raise Refused(fault, at)
+        if kind == ACTION:
+            study.actions[-1].place = at
         at = after
         last = kind
+    refuse_repeats(study)
     if at < len(data):
         raise Refused(8, at)
     return study
+
+
+def refuse_repeats(study):
+    """7 at the first action in force that sets what one before it, in force, sets."""
+    sets = set()
+    for action in filter(study.in_force, study.actions):
+        if (action.variable, action.post) in sets:
+            raise Refused(7, action.place)
+        sets.add((action.variable, action.post))
 
 
 def check(data):
@@ -206,11 +246,21 @@ def end_record():
     return bytes([END])
 
 
+def situations_record(byte):
+    """Nothing for a set of all eight."""
+    return b"" if byte == ALL_EIGHT else bytes([SITUATIONS, byte])
+
+
+def situation_record(number):
+    """Nothing for situation 0."""
+    return bytes([SITUATION, number]) if number else b""
+
+
 def written(study):
     """The file that says this study."""
-    data = b"".join(variable_record(count) for count in study.counts)
+    data = situation_record(study.situation) + b"".join(variable_record(count) for count in study.counts)
     for a in study.actions:
         data += action_record(a.variable, a.pre, a.post)
-        data += b"".join(condition_record(*c) for c in a.conditions)
+        data += b"".join(condition_record(*c) for c in a.conditions) + situations_record(a.situations)
     data += b"".join(task_record(v, p, q) for v, (p, q) in enumerate(zip(study.starts, study.goals)))
     return data + seed_record(study.seed) + end_record()

@@ -6,11 +6,11 @@ int printf(const char *format, ...); /* instead of stdio.h, which the kit's comp
 static const uint8_t variables[] = {2, 3, 2}; /* pass, cart, ride: how many values */
 
 static const uint8_t actions[] = {
-    0, 0, 1, 0, /* take the pass: variable 0 from 0 to 1, no condition */
-    1, 0, 1, 0, /* fetch the cart */
-    1, 1, 2, 2, /* ride up with the cart: two conditions */
-    2, 0, 1, 2, /* book the ride: two conditions */
-    0, 1, 0, 0, /* return the pass */
+    0, 0, 1, 255, 0, /* take the pass: variable 0 from 0 to 1, in all situations, no condition */
+    1, 0, 1, 255, 0, /* fetch the cart */
+    1, 1, 2, 255, 2, /* ride up with the cart: two conditions */
+    2, 0, 1, 255, 2, /* book the ride: two conditions */
+    0, 1, 0, 255, 0, /* return the pass */
 };
 
 static const uint8_t conditions[] = {
@@ -30,11 +30,12 @@ static int refused(const char *call, marrowkite_answer answer) {
 }
 
 int main(void) {
-  uint8_t file[25030], plan[256];
+  uint8_t file[25544], plan[256];
   uint32_t seed = 1;
+  uint8_t situation = 0; /* 0: no record of it is written */
   marrowkite_answer written =
-      marrowkite_write(variables, sizeof variables, actions, sizeof actions, conditions, sizeof conditions, tasks,
-                       sizeof tasks, seed, file, sizeof file);
+      marrowkite_write(situation, variables, sizeof variables, actions, sizeof actions, conditions, sizeof conditions,
+                       tasks, sizeof tasks, seed, file, sizeof file);
   if (written.number != 0) return refused("write", written);
   marrowkite_answer planned = marrowkite_plan_seeded(file, written.first, plan, sizeof plan);
   if (planned.number != 0) return refused("plan", planned);

@@ -57,6 +57,7 @@ mod exported {
         pub fn marrowkite_draw(seed: u64, count: u64, ranks: *mut u8, ranks_len: usize) -> Answer;
         pub fn marrowkite_record_at(file: *const u8, file_len: usize, at: u64) -> Record;
         pub fn marrowkite_write(
+            situation: u8,
             variables: *const u8,
             variables_len: usize,
             actions: *const u8,
@@ -99,7 +100,7 @@ pub fn plan_seeded(file: &[u8], plan: &mut [u8]) -> Answer {
     }
 }
 
-/// Runs a plan: 1 to 8, then 13, then step by step 14, 15, 16, then 17. Done: the end state is `state[..first]`.
+/// Runs a plan: 1 to 8, then 13, then step by step 14, 20, 15, 16, then 17. Done: the end state is `state[..first]`.
 pub fn run(file: &[u8], plan: &[u8], state: &mut [u8]) -> Answer {
     unsafe {
         exported::marrowkite_run(
@@ -123,9 +124,11 @@ pub fn record_at(file: &[u8], at: u64) -> Record {
     unsafe { exported::marrowkite_record_at(file.as_ptr(), file.len(), at) }
 }
 
-/// Writes the file that lists stand for: 3 to 7, then 13. An entry has one byte in `variables`, four in `actions`, two in
-/// `conditions`, three in `tasks`. Done: the file is `file[..first]`.
+/// Writes the file that a situation, lists and a seed stand for: 3 to 7, then 13. An entry has one byte in `variables`, five in
+/// `actions`, two in `conditions`, three in `tasks`; situation 0 and a set of 255 are not written. Done: the file is
+/// `file[..first]`.
 pub fn write(
+    situation: u8,
     variables: &[u8],
     actions: &[u8],
     conditions: &[u8],
@@ -135,6 +138,7 @@ pub fn write(
 ) -> Answer {
     unsafe {
         exported::marrowkite_write(
+            situation,
             variables.as_ptr(),
             variables.len(),
             actions.as_ptr(),
@@ -161,7 +165,9 @@ mod tests {
     ];
 
     const VARIABLES: [u8; 3] = [2, 3, 2];
-    const ACTIONS: [u8; 20] = [0, 0, 1, 0, 1, 0, 1, 0, 1, 1, 2, 2, 2, 0, 1, 2, 0, 1, 0, 0];
+    const ACTIONS: [u8; 25] = [
+        0, 0, 1, 255, 0, 1, 0, 1, 255, 0, 1, 1, 2, 255, 2, 2, 0, 1, 255, 2, 0, 1, 0, 255, 0,
+    ];
     const CONDITIONS: [u8; 8] = [0, 1, 2, 1, 0, 1, 1, 1];
     const TASKS: [u8; 9] = [0, 0, 1, 1, 0, 2, 2, 0, 1];
 
@@ -203,11 +209,11 @@ mod tests {
         assert_eq!(run(&PORTER, &[], &mut buffer), answer(17, 0, 0));
         assert_eq!(draw(0, 3, &mut buffer), answer(18, 0, 0));
         assert_eq!(
-            write(&VARIABLES, &ACTIONS, &CONDITIONS, &TASKS, 0, &mut buffer),
+            write(0, &VARIABLES, &ACTIONS, &CONDITIONS, &TASKS, 0, &mut buffer),
             answer(5, 50, 0)
         );
         assert_eq!(
-            write(&VARIABLES, &ACTIONS, &CONDITIONS, &TASKS, 1, &mut buffer),
+            write(0, &VARIABLES, &ACTIONS, &CONDITIONS, &TASKS, 1, &mut buffer),
             answer(13, 56, 0)
         );
         assert_eq!(buffer, [0xaa; 3]);
@@ -218,14 +224,14 @@ mod tests {
         assert_eq!(check(&[]), answer(1, 0, 0));
         assert_eq!(plan(&PORTER, &[], &mut []), answer(9, 0, 1));
         assert_eq!(draw(7, 0, &mut []), answer(0, 7, 0));
-        assert_eq!(write(&[], &[], &[], &[], 1, &mut []), answer(3, 0, 0));
+        assert_eq!(write(0, &[], &[], &[], &[], 1, &mut []), answer(3, 0, 0));
     }
 
     #[test]
     fn the_porter_is_written() {
         let mut file = [0xaa; 58];
         assert_eq!(
-            write(&VARIABLES, &ACTIONS, &CONDITIONS, &TASKS, 1, &mut file),
+            write(0, &VARIABLES, &ACTIONS, &CONDITIONS, &TASKS, 1, &mut file),
             answer(0, 56, 0)
         );
         assert_eq!(file[..56], PORTER);
@@ -235,13 +241,36 @@ mod tests {
     #[test]
     fn nothing_that_is_lent_is_passed_over() {
         let mut file = [0xaa; 64];
-        let cut_task = write(&VARIABLES, &ACTIONS, &CONDITIONS, &TASKS[..8], 1, &mut file);
+        let cut_task = write(0, &VARIABLES, &ACTIONS, &CONDITIONS, &TASKS[..8], 1, &mut file);
         assert_eq!(cut_task, answer(5, 46, 0));
-        let missing = write(&VARIABLES, &ACTIONS, &CONDITIONS[..6], &TASKS, 1, &mut file);
+        let missing = write(0, &VARIABLES, &ACTIONS, &CONDITIONS[..6], &TASKS, 1, &mut file);
         assert_eq!(missing, answer(5, 31, 0));
-        let left_over = write(&VARIABLES, &ACTIONS[..16], &[0; 10], &TASKS, 1, &mut file);
+        let left_over = write(0, &VARIABLES, &ACTIONS[..20], &[0; 10], &TASKS, 1, &mut file);
         assert_eq!(left_over.number, 6);
         assert_eq!(file, [0xaa; 64]);
+    }
+
+    /// Two ways to load the cart: the first by day, in situation 1, the second by night, in situation 2.
+    fn night_porter(situation: u8) -> [u8; 26] {
+        [
+            8, situation, 1, 2, 2, 0, 0, 1, 7, 2, 2, 0, 0, 1, 7, 4, 4, 0, 0, 1, 5, 0, 0, 0, 1, 6,
+        ]
+    }
+
+    #[test]
+    fn the_situation_decides() {
+        let mut steps = [0xaa; 1];
+        for (situation, action) in [(1, 0), (2, 1)] {
+            let file = night_porter(situation);
+            assert_eq!(plan_seeded(&file, &mut steps), answer(0, 1, 0));
+            assert_eq!(steps, [action]);
+            assert_eq!(run(&file, &[1 - action], &mut steps), answer(20, 0, 0));
+            let (mut written, actions) = ([0; 26], [0, 0, 1, 2, 0, 0, 0, 1, 4, 0]);
+            let of_lists = write(situation, &[2], &actions, &[], &[0, 0, 1], 1, &mut written);
+            assert_eq!((of_lists, written), (answer(0, 26, 0), file));
+        }
+        assert_eq!(plan_seeded(&night_porter(3), &mut steps), answer(10, 0, 0));
+        assert_eq!(check(&night_porter(8)), answer(5, 0, 0));
     }
 
     #[test]

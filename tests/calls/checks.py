@@ -1,9 +1,11 @@
 """Checking files: the porter file whole, cut, damaged and with a record more, and files at document 01's limits."""
 
-from study import PORTER, action_record, check, condition_record, end_record, seed_record, task_record, variable_record
+from study import PORTER, action_record, check, condition_record, end_record, seed_record, situation_record
+from study import situations_record, task_record, variable_record
 
-TELLING = [0, 1, 2, 3, 4, 5, 6, 7, 16, 17, 32, 255]
+TELLING = [0, 1, 2, 3, 4, 5, 6, 7, 8, 9, 16, 17, 32, 255]
 MORE = [variable_record(2), action_record(1, 2, 0), condition_record(2, 0), task_record(0, 0, 0), seed_record(2), end_record()]
+MORE += [situations_record(1), situation_record(7)]
 
 
 def show(book, name, *files, says=None):
@@ -37,7 +39,7 @@ def porter_cases(book):
     for at in range(56):
         show(book, f"byte {at} set to " + " ".join(map(str, TELLING)), *(with_byte(PORTER, at, byte) for byte in TELLING))
     for at in range(56):
-        show(book, f"byte {at} set to 0 .. 7, and cut behind it", *(PORTER[:at] + bytes([byte]) for byte in range(8)))
+        show(book, f"byte {at} set to 0 .. 9, and cut behind it", *(PORTER[:at] + bytes([byte]) for byte in range(10)))
     for at in range(57):
         show(book, f"a record more of each kind at {at}", *(inserted(at, record) for record in MORE))
 
@@ -73,6 +75,41 @@ def altered(book):
         show(book, f"seed {seed}", with_seed(seed))
 
 
+# Situations. A variable of 2 values, which actions of some sets take from 0 to 1, in some situation.
+
+
+def ways(situation, *sets):
+    actions = b"".join(action_record(0, 0, 1) + situations_record(byte) for byte in sets)
+    return situation_record(situation) + variable_record(2) + actions + task_record(0, 0, 1) + seed_record(1) + end_record()
+
+
+def situations(book):
+    for situation in range(8):
+        alone = [1 << s for s in range(8)]
+        show(book, f"eight ways, one for each situation, in situation {situation}", ways(situation, *alone), says=(0, 8, 1))
+        says = (7, 10, 0) if situation == 2 else (0, 2, 1)
+        show(book, f"two ways in situation 2 alone, in situation {situation}", ways(situation, 0b11111100, 4), says=says)
+    show(book, "three ways, none in force", ways(0, 254, 254, 0), says=(0, 3, 1))
+    show(book, "out of force, in force, out of force, in force", ways(1, 1, 3, 1, 2), says=(7, 22, 0))
+    show(book, "two ways, and a byte behind", ways(0, 255, 255) + b"\0", says=(7, 6, 0))
+    show(book, "two ways, the seed 0", ways(0, 255, 255).replace(seed_record(1), seed_record(0)), says=(5, 14, 0))
+    show(book, "two ways, and an action out of range out of force", ways(0, 255, 255, 2).replace(
+        action_record(0, 0, 1) + situations_record(2), action_record(0, 0, 2) + situations_record(2)), says=(5, 10, 0))
+    for name, first in (("0", 0), ("8", 8), ("255", 255)):
+        show(book, f"a written situation {name}", bytes([8, first]) + ways(0, 255), says=(5 if first else 6, 0, 0))
+    show(book, "a written set of all eight", ways(0, 255)[:6] + b"\x07\xff" + ways(0, 255)[6:], says=(6, 6, 0))
+    show(book, "a second set", ways(0, 1)[:8] + b"\x07\x01" + ways(0, 1)[8:], says=(3, 8, 0))
+    show(book, "a second situation", situation_record(1) + ways(1, 1), says=(3, 2, 0))
+    show(book, "a situation behind a variable", variable_record(2) + ways(1, 1), says=(3, 2, 0))
+    show(book, "a set behind a variable", variable_record(2) + situations_record(1) + ways(0, 1), says=(3, 2, 0))
+    with_set = situation_record(2) + PORTER[:34] + situations_record(4) + PORTER[34:]
+    show(book, "the porter, who books by night alone", with_set, says=(0, 5, 3))
+    for at in range(len(with_set)):
+        cut = [with_set[:at] + bytes([byte]) for byte in range(10)]
+        show(book, f"the same cut to {at}, then 0 .. 9", *cut)
+    show(book, "a condition behind a set", with_set[:38] + condition_record(2, 1) + with_set[38:], says=(3, 38, 0))
+
+
 # The limits.
 
 
@@ -84,10 +121,10 @@ def conditions(own, below):
     return b"".join(condition_record(v, 1) for v in range(below) if v != own)
 
 
-def setters(count, below, others):
+def setters(count, below, others, more=b""):
     """For each of the first variables an action for each value below `below`, from the next of 16 values."""
     return b"".join(
-        action_record(v, (q + 1) % 16, q) + conditions(v, others) for v in range(count) for q in range(below)
+        action_record(v, (q + 1) % 16, q) + conditions(v, others) + more for v in range(count) for q in range(below)
     )
 
 
@@ -140,8 +177,8 @@ def many_conditions(book):
 
 
 def longest(book):
-    data = variables(32, 16) + setters(32, 8, 32) + rest(32)
-    book.held(len(data), 25030)
+    data = situation_record(7) + variables(32, 16) + setters(32, 8, 32, situations_record(128)) + rest(32)
+    book.held(len(data), 25544)
     show(book, "the longest file", data)
     show(book, "the longest file and a byte", data + b"\0")
 
@@ -149,6 +186,7 @@ def longest(book):
 def write(book):
     porter_cases(book)
     altered(book)
+    situations(book)
     many_variables(book)
     many_actions(book)
     many_conditions(book)

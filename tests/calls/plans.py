@@ -152,7 +152,8 @@ def faults(book):
         ("nothing", b""),
         ("cut to 54", PORTER[:54]),
         ("cut to 55", PORTER[:55]),
-        ("an unknown kind", with_byte(6, 7)),
+        ("an unknown kind", with_byte(6, 9)),
+        ("a set for an action", with_byte(6, 7)),
         ("an end for an action", with_byte(6, 6)),
         ("a variable of 17 values", with_byte(1, 17)),
         ("pre equal to post", with_byte(9, 0)),
@@ -223,8 +224,33 @@ def show_long_seeded(book, seed, room):
     show_seeded(book, f"120 steps, room for {room}", file_of(long(seed)), room)
 
 
+# Two ways to load a cart: by day a pass is needed, by night, in situation 2, none. In situation 3 neither holds.
+
+
+def loading(situation):
+    actions = [Action(0, 0, 1, [(1, 1)], 0b11110011), Action(1, 0, 1), Action(0, 0, 1, [], 4)]
+    return file_of(Study([2, 2], actions, [(0, 1), (0, 1)], 1, situation))
+
+
+def situations(book):
+    for situation in (0, 1, 4, 7):
+        case(book, f"by day, situation {situation}", loading(situation), [0, 1, 2], (0, 2, 0), [1, 0])
+    case(book, "by night", loading(2), [0, 1, 2], (0, 2, 0), [1, 2])
+    case(book, "by night, other ranks", loading(2), [0, 2, 1], (0, 2, 0), [2, 1])
+    case(book, "neither by day nor by night", loading(3), [0, 1, 2], (10, 0, 0))
+    case(book, "a rank for each action, in force or not", loading(2), [0, 1], (9, 2, 1))
+    for situation in (0, 2, 3):
+        show_seeded(book, f"loading in situation {situation}", loading(situation))
+    no_pass = [Action(0, 0, 1, [(1, 1)]), Action(1, 0, 1, [], 2)]
+    case(book, "what sets the wanted value is out of force", file_of(Study([2, 2], no_pass, [(0, 1), (0, 0)], 1)), [0, 1], (11, 0, 1))
+    ring = [Action(0, 0, 1, [(1, 1)]), Action(1, 0, 1, [(0, 1)], 1), Action(1, 0, 1, [], 2)]
+    case(book, "a ring by day", file_of(Study([2, 2], ring, [(0, 1)] * 2, 1)), [0, 1, 2], (12, 0, 0))
+    case(book, "no ring by night", file_of(Study([2, 2], ring, [(0, 1)] * 2, 1, 1)), [0, 1, 2], (0, 2, 0), [2, 0])
+
+
 def write(book):
     worked(book)
+    situations(book)
     other_files(book)
     rank_lists(book)
     which_first(book)

@@ -3,10 +3,14 @@
 from study import END, PORTER, record_at
 
 # Bytes that are no kind among others; behind them, records that end with the file or are cut by its end.
-ODD = bytes([0, 7, 8, 255, 128, 1, 0, 2, 9, 10, 11, 6, 254, 5, 4, 3, 2, 1, 3, 5, 4, 3, 2, 1])
+ODD = bytes([0, 9, 7, 8, 255, 128, 1, 0, 2, 9, 10, 11, 6, 254, 5, 4, 3, 2, 1, 3, 5, 4, 3, 2, 1])
 
 # Two records, then a byte that is no kind.
-SHORT = bytes([1, 16, 3, 2, 1, 7, 6])
+SHORT = bytes([1, 16, 3, 2, 1, 9, 6])
+
+
+# Records of the kinds 8 and 7, whatever they say and wherever they stand.
+SITUATIONS = bytes([8, 9, 7, 255, 7])
 
 
 def told(data, at):
@@ -45,4 +49,5 @@ def write(book):
     one_by_one(book, "the porter file cut to 54", PORTER[:54])
     one_by_one(book, "the porter file cut to 55", PORTER[:55])
     one_by_one(book, "odd bytes", SHORT)
+    one_by_one(book, "a situation, a set, a set that is cut", SITUATIONS)
     one_by_one(book, "no bytes", b"")

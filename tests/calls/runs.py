@@ -17,6 +17,8 @@ def run(data, entries, buffer):
         if entry >= len(study.actions):
             return (14, index, 0), buffer
         action = study.actions[entry]
+        if not study.in_force(action):
+            return (20, index, 0), buffer
         if state[action.variable] != action.pre:
             return (15, index, action.variable), buffer
         failing = [v for v, value in action.conditions if state[v] != value]
@@ -109,8 +111,26 @@ def horse_cases(book):
     show(book, "an action that is not there", HORSE, [4, 5, 6, 7])
 
 
+# Two ways to load a cart: 0 by day, which needs a pass, and 1 by night, in situation 2; 2 takes the pass.
+def loading(situation):
+    actions = [Action(0, 0, 1, [(1, 1)], 0b11111011), Action(0, 0, 1, [], 4), Action(1, 0, 1)]
+    return written(Study([2, 2], actions, [0, 0], [1, 1], 1, situation))
+
+
+def situation_cases(book):
+    for situation in range(8):
+        day, night = loading(situation), situation == 2
+        show(book, f"by night in situation {situation}", day, [1, 2], says=(0, 2, 0) if night else (20, 0, 0))
+        show(book, f"by day in situation {situation}", day, [2, 0], says=(20, 1, 0) if night else (0, 2, 0))
+    show(book, "an action out of force that may not be done either: 20 before 15", loading(2), [0], says=(20, 0, 0))
+    show(book, "an action out of force that takes a value again: 20 before 16", loading(0), [2, 0, 1], says=(20, 2, 0))
+    show(book, "an action that is not there: 14", loading(2), [3, 0], says=(14, 0, 0))
+    show(book, "an action out of force, and no room: 13", loading(2), [0], room=1, says=(13, 2, 0))
+
+
 def write(book):
     porter_cases(book)
+    situation_cases(book)
     horse_cases(book)
     show(book, "256 steps", TALL, list(range(256)))
     show(book, "256 steps and room for the state", TALL, list(range(256)), room=18)

@@ -1,21 +1,24 @@
 """Writing files from lists: the porter's lists whole, faulty and cut, and lists at document 01's limits."""
 
-from study import PORTER, Refused, action_record, condition_record, end_record, read, seed_record, task_record, variable_record
+from study import ALL_EIGHT, PORTER, Refused, action_record, condition_record, end_record, read, seed_record
+from study import situation_record, situations_record, task_record, variable_record
 
 UNLENT = 255  # each number of what is announced and not lent
 
 
-def file_of(variables, actions, conditions, tasks, seed):
+def file_of(situation, variables, actions, conditions, tasks, seed):
     """The bytes that the lists stand for."""
-    data = b"".join(variable_record(count) for count in variables)
+    data = situation_record(situation) + b"".join(variable_record(count) for count in variables)
     while actions or conditions:  # an action that is cut, and one that is not there, takes all conditions left
         all_left = (len(conditions) + 1) // 2
-        variable, pre, post, many = actions[:4] if len(actions) > 3 else (UNLENT, UNLENT, UNLENT, all_left)
-        actions = actions[4:]
+        unlent = UNLENT, UNLENT, UNLENT, ALL_EIGHT, all_left
+        variable, pre, post, situations, many = actions[:5] if len(actions) > 4 else unlent
+        actions = actions[5:]
         data += action_record(variable, pre, post)
         for _ in range(many):
             data += condition_record(*(conditions[:2] if len(conditions) > 1 else (UNLENT, UNLENT)))
             conditions = conditions[2:]
+        data += situations_record(situations)
     while tasks:
         data += task_record(*(tasks[:3] if len(tasks) > 2 else (UNLENT, UNLENT, UNLENT)))
         tasks = tasks[3:]
@@ -36,10 +39,10 @@ def written(lists, buffer):
 
 def add(book, lists, room, says=None, leaves=None):
     """A call more of the case that was begun. The lists are given as the file's bytes, one after another."""
-    *parts, seed = lists
+    situation, *parts, seed = lists
     book.use(b"".join(parts))
     made = "write", lambda buffer: written(lists, buffer)
-    book.lend(made, seed, *map(len, parts), room=room, says=says, leaves=leaves)
+    book.lend(made, seed, situation, *map(len, parts), room=room, says=says, leaves=leaves)
 
 
 def show(book, name, lists, room=60, says=None, leaves=None):
@@ -53,13 +56,18 @@ def refused(book, name, lists, *numbers):
 
 
 VARIABLES = bytes([2, 3, 2])
-ACTIONS = bytes.fromhex("00000100 01000100 01010202 02000102 00010000")
+ACTIONS = bytes.fromhex("000001ff00 010001ff00 010102ff02 020001ff02 000100ff00")
 CONDITIONS = bytes.fromhex("0001 0201 0001 0101")
 TASKS = bytes.fromhex("000001 010002 020001")
+TWICE = ACTIONS[:20] + ACTIONS[:5]
 
 
-def porter(variables=VARIABLES, actions=ACTIONS, conditions=CONDITIONS, tasks=TASKS, seed=1):
-    return variables, actions, conditions, tasks, seed
+def porter(variables=VARIABLES, actions=ACTIONS, conditions=CONDITIONS, tasks=TASKS, seed=1, situation=0):
+    return situation, variables, actions, conditions, tasks, seed
+
+
+def alone(variables=b"", actions=b"", conditions=b"", tasks=b"", seed=1, situation=0):
+    return situation, variables, actions, conditions, tasks, seed
 
 
 def with_byte(data, at, byte):
@@ -74,50 +82,52 @@ def whole(book):
     show(book, "the largest seed", porter(seed=2147483646), says=(0, 56, 0))
     show(book, "a seed of four different bytes", porter(seed=0x01020304), says=(0, 56, 0))
     show(book, "no action", porter(actions=b"", conditions=b""), says=(0, 24, 0))
-    show(book, "one variable alone", (bytes([2]), b"", b"", bytes([0, 0, 0]), 1), says=(0, 12, 0))
+    show(book, "one variable alone", alone(bytes([2]), tasks=bytes([0, 0, 0])), says=(0, 12, 0))
     book.case("write: in one buffer: the porter, the porter with seed 0, one without conditions")
     add(book, porter(), 60)
     add(book, porter(seed=0), 60)
-    add(book, porter(actions=ACTIONS[:8], conditions=b"", seed=3), 60)
+    add(book, porter(actions=ACTIONS[:10], conditions=b"", seed=3), 60)
 
 
 def faults(book):
     """3 to 7, each with its place, into a buffer that is too short for the file: 13 comes last."""
-    refused(book, "nothing at all", (b"", b"", b"", b"", 1), 3, 0)
+    refused(book, "nothing at all", alone(), 3, 0)
     refused(book, "no variable", porter(variables=b""), 3, 0)
-    refused(book, "no variable, and conditions left over", (b"", b"", CONDITIONS, b"", 1), 3, 0)
-    refused(book, "no variable, and tasks alone", (b"", b"", b"", TASKS, 1), 3, 0)
+    refused(book, "no variable, and conditions left over", alone(conditions=CONDITIONS), 3, 0)
+    refused(book, "no variable, and tasks alone", alone(tasks=TASKS), 3, 0)
     refused(book, "no task", porter(tasks=b""), 3, 38)
     refused(book, "a task too few", porter(tasks=TASKS[:6]), 3, 46)
     refused(book, "a task too many", porter(tasks=TASKS + TASKS[:3]), 3, 50)
-    refused(book, "33 variables", (bytes([2] * 33), b"", b"", b"", 1), 4, 64)
-    refused(book, "33 variables, the last of no value", (bytes([2] * 32 + [0]), b"", b"", b"", 1), 4, 64)
+    refused(book, "33 variables", alone(bytes([2] * 33)), 4, 64)
+    refused(book, "33 variables, the last of no value", alone(bytes([2] * 32 + [0])), 4, 64)
     refused(book, "a variable of 1 value", porter(variables=bytes([2, 1, 2])), 5, 2)
     refused(book, "a variable of 17 values", porter(variables=bytes([2, 17, 2])), 5, 2)
-    refused(book, "an action of no variable", porter(actions=with_byte(ACTIONS, 4, 3)), 5, 10)
-    refused(book, "a pre too large", porter(actions=with_byte(ACTIONS, 9, 3)), 5, 14)
+    refused(book, "an action of no variable", porter(actions=with_byte(ACTIONS, 5, 3)), 5, 10)
+    refused(book, "a pre too large", porter(actions=with_byte(ACTIONS, 11, 3)), 5, 14)
     refused(book, "a condition on no variable", porter(conditions=with_byte(CONDITIONS, 2, 3)), 5, 21)
     refused(book, "a condition's value too large", porter(conditions=with_byte(CONDITIONS, 7, 3)), 5, 31)
     refused(book, "tasks out of order", porter(tasks=TASKS[3:6] + TASKS[:3] + TASKS[6:]), 5, 38)
     refused(book, "a goal too large", porter(tasks=with_byte(TASKS, 5, 3)), 5, 42)
     for seed in (0, 2147483647, 4294967295):
         refused(book, f"seed {seed}", porter(seed=seed), 5, 50)
-    refused(book, "pre equal to post", porter(actions=with_byte(ACTIONS, 10, 1)), 6, 14)
+    refused(book, "pre equal to post", porter(actions=with_byte(ACTIONS, 12, 1)), 6, 14)
     refused(book, "conditions out of order", porter(conditions=CONDITIONS[2:4] + CONDITIONS[:2] + CONDITIONS[4:]), 6, 21)
     refused(book, "a condition repeated", porter(conditions=with_byte(CONDITIONS, 2, 0)), 6, 21)
     refused(book, "a condition on the own variable", porter(conditions=with_byte(CONDITIONS, 0, 1)), 6, 18)
-    refused(book, "an action that comes before", porter(actions=ACTIONS[:16] + ACTIONS[:4]), 7, 34)
+    refused(book, "an action that comes before", porter(actions=TWICE), 7, 34)
+    refused(book, "an action that comes before, and seed 0", porter(actions=TWICE, seed=0), 5, 50)
+    refused(book, "an action that comes before, and no task", porter(actions=TWICE, tasks=b""), 3, 38)
 
 
 def cut(book):
     """Entries that are cut, conditions that are missing, conditions that are left over."""
     refused(book, "a byte more of actions", porter(actions=ACTIONS + b"\0"), 5, 38)
-    refused(book, "an action cut", porter(actions=ACTIONS[:19]), 5, 34)
-    refused(book, "an action cut that should take conditions", porter(actions=ACTIONS[:15]), 5, 24)
+    refused(book, "an action cut", porter(actions=ACTIONS[:24]), 5, 34)
+    refused(book, "an action cut that should take conditions", porter(actions=ACTIONS[:19]), 5, 24)
     refused(book, "a condition cut", porter(conditions=CONDITIONS[:7]), 5, 31)
     refused(book, "a condition missing", porter(conditions=CONDITIONS[:6]), 5, 31)
     refused(book, "all conditions missing", porter(conditions=b""), 5, 18)
-    refused(book, "an action that announces 255", porter(actions=with_byte(ACTIONS, 19, 255)), 5, 38)
+    refused(book, "an action that announces 255", porter(actions=with_byte(ACTIONS, 24, 255)), 5, 38)
     refused(book, "a condition left over", porter(conditions=CONDITIONS + CONDITIONS[:2]), 5, 38)
     refused(book, "a byte of conditions left over", porter(conditions=CONDITIONS + b"\0"), 5, 38)
     refused(book, "conditions and no action", porter(actions=b""), 5, 6)
@@ -138,24 +148,24 @@ def each_byte(book):
 
 
 # The limits. 17 variables of 16 values, and for each value of the first 16 an action.
-SETTERS = bytes(byte for v in range(16) for q in range(16) for byte in (v, (q + 1) % 16, q, 0))
+SETTERS = bytes(byte for v in range(16) for q in range(16) for byte in (v, (q + 1) % 16, q, ALL_EIGHT, 0))
 
 
 def many_actions(actions, conditions=b""):
-    return bytes([16] * 17), actions, conditions, bytes(byte for v in range(17) for byte in (v, 0, 1)), 1
+    return alone(bytes([16] * 17), actions, conditions, bytes(byte for v in range(17) for byte in (v, 0, 1)))
 
 
 def many_conditions(own, *more):
     conditions = bytes(byte for v in range(32) if v != own for byte in (v, 1)) + bytes(more)
-    actions = bytes([own, 0, 1, len(conditions) // 2])
-    return bytes([2] * 32), actions, conditions, bytes(byte for v in range(32) for byte in (v, 0, 1)), 1
+    actions = bytes([own, 0, 1, ALL_EIGHT, len(conditions) // 2])
+    return alone(bytes([2] * 32), actions, conditions, bytes(byte for v in range(32) for byte in (v, 0, 1)))
 
 
 def limits(book):
-    show(book, "32 variables", (bytes([2] * 32), b"", b"", bytes(byte for v in range(32) for byte in (v, 0, 0)), 1), 264)
+    show(book, "32 variables", alone(bytes([2] * 32), tasks=bytes(byte for v in range(32) for byte in (v, 0, 0))), 264)
     show(book, "256 actions", many_actions(SETTERS), 264, says=(13, 1132, 0))
-    refused(book, "257 actions", many_actions(SETTERS + bytes([16, 0, 1, 0])), 4, 1058)
-    refused(book, "257 actions, the last of no variable", many_actions(SETTERS + bytes([17, 0, 1, 0])), 4, 1058)
+    refused(book, "257 actions", many_actions(SETTERS + bytes([16, 0, 1, 255, 0])), 4, 1058)
+    refused(book, "257 actions, the last of no variable", many_actions(SETTERS + bytes([17, 0, 1, 255, 0])), 4, 1058)
     refused(book, "256 actions and one that is cut", many_actions(SETTERS + b"\0"), 4, 1058)
     refused(book, "256 actions and a condition left over", many_actions(SETTERS, b"\0\0"), 4, 1058)
     show(book, "31 conditions", many_conditions(15), 264, says=(13, 295, 0))
@@ -163,8 +173,30 @@ def limits(book):
     refused(book, "31 conditions, then one on no variable", many_conditions(15, 32, 0), 5, 161)
 
 
+def situations(book):
+    """Written or not, in force or not. The places move by the two bytes of each record that is written."""
+    show(book, "the porter in situation 3", porter(situation=3), says=(0, 58, 0), leaves=b"\x08\x03" + PORTER)
+    show(book, "the porter in situation 7, room for 57", porter(situation=7), room=57, says=(13, 58, 0), leaves=b"")
+    refused(book, "situation 8", porter(situation=8), 5, 0)
+    refused(book, "situation 255, and nothing else right", alone(situation=255, seed=0), 5, 0)
+    refused(book, "a situation and no variable", alone(situation=1), 3, 2)
+    refused(book, "a situation and 33 variables", alone(bytes([2] * 33), situation=1), 4, 66)
+    for name, byte in (("no situation", 0), ("situation 0", 1), ("all but situation 0", 254)):
+        show(book, f"an action that holds in {name}", porter(actions=with_byte(ACTIONS, 3, byte)), says=(0, 58, 0))
+    all_sets = bytes(4 if at % 5 == 3 else byte for at, byte in enumerate(ACTIONS))
+    show(book, "every action with its set", porter(actions=all_sets, situation=2), room=70, says=(0, 68, 0))
+    only_two = with_byte(with_byte(TWICE, 3, 0b11111100), 23, 4)  # both in situation 2 alone
+    for situation in range(8):
+        says = (7, 38, 0) if situation == 2 else (0, 62 if situation else 60, 0)
+        show(book, f"two ways to take the pass, situation {situation}", porter(actions=only_two, situation=situation), 62, says)
+    never = with_byte(with_byte(TWICE, 3, 0), 23, 0)
+    show(book, "two ways to take the pass, never", porter(actions=never), 60, says=(0, 60, 0))
+    refused(book, "in force and out of it, then in force again", porter(actions=with_byte(TWICE, 3, 2) + ACTIONS[:5]), 7, 40)
+
+
 def write(book):
     whole(book)
+    situations(book)
     faults(book)
     cut(book)
     each_byte(book)

@@ -1,12 +1,12 @@
 """The library against the oracle: every number and every byte of at least 24,000 calls.
 
-    python3 tests/host/differential.py [--seed N] [--calls N] COMMAND...
+    python3 tests/host/differential.py [--seed N] [--calls N] [--any-stack] COMMAND...
 
 COMMAND starts tests/host/serve.c. The calls are those of tests/oracle.py: its worked cases, then calls from a seed, which
 is drawn anew for each run (or given, also by MARROWKITE_SEED) and printed, then a fifth as many writes. A run goes on until
 each answer that each call can give was met, for at most twice as many calls. Each file that loads is read by the oracle and
 written back by the library, which has to give the same bytes. Each call's stack is held to the limit that
-include/marrowkite.h names.
+include/marrowkite.h names, unless any stack will do, as for the yardstick.
 The last line is 'N passed, M failed': calls that agree, calls that do not and answers that were never met.
 """
 
@@ -33,7 +33,7 @@ CAN_ANSWER = {
     "check": {0} | FILE_FAULTS,
     "plan": {0, 9, 10, 11, 12, 13} | FILE_FAULTS,
     "plan_seeded": {0, 10, 11, 12, 13} | FILE_FAULTS,
-    "run": {0, 13, 14, 15, 16, 17} | FILE_FAULTS,
+    "run": {0, 13, 14, 15, 16, 17, 20} | FILE_FAULTS,
     "draw": {0, 13, 18, 19},
     "write": {0, 3, 4, 5, 6, 7, 13},
 }
@@ -49,7 +49,7 @@ def parts(name, inputs):
     if name == "draw":
         return inputs[:2], (b"", b"", b"", b""), inputs[2]
     if name == "write":
-        return (inputs[4], 0), inputs[:4], inputs[5]
+        return (inputs[5], inputs[0]), inputs[1:5], inputs[6]
     *read, buffer = inputs
     return (0, 0), (*read, b"", b"", b"")[:4], buffer
 
@@ -128,7 +128,7 @@ def differences(name, inputs, expected, library, limits):
         wrong.append(f"the library leaves {buffer.hex(' ')}, the oracle {expected[1].hex(' ')}")
     if not whole:
         wrong.append("a guard byte or an input was altered")
-    if stack > limits[name]:
+    if stack > limits.get(name, stack):
         wrong.append(f"{stack} bytes of stack; marrowkite.h says at most {limits[name]}")
     return wrong, numbers, stack
 
@@ -137,9 +137,9 @@ def shown(name, inputs):
     return f"{name}(" + ", ".join(part.hex(" ") or "empty" if isinstance(part, bytes) else str(part) for part in inputs) + ")"
 
 
-def compare(seed, n, command):
+def compare(seed, n, limits, command):
     """Prints what was found; how many agree and how many do not."""
-    library, limits = Library(command), stack_limits()
+    library = Library(command)
     seen, stacks, faults, agreed, longest_file, longest_plan = Counter(), Counter(), [], 0, 0, 0
     for name, inputs, expected in all_calls(seed, n, seen):
         try:
@@ -169,14 +169,15 @@ def compare(seed, n, command):
 
 
 def main():
-    reader = argparse.ArgumentParser(usage="differential.py [--seed N] [--calls N] COMMAND...")
+    reader = argparse.ArgumentParser(usage="differential.py [--seed N] [--calls N] [--any-stack] COMMAND...")
     reader.add_argument("--seed", type=int, default=os.environ.get("MARROWKITE_SEED") or random.SystemRandom().randrange(2**31))
     reader.add_argument("--calls", type=int, default=20000)
+    reader.add_argument("--any-stack", action="store_true")
     reader.add_argument("command", nargs=argparse.REMAINDER)
     given = reader.parse_args()
     print(f"seed {given.seed} (MARROWKITE_SEED={given.seed} makes the same calls again)", flush=True)
     begun = time.monotonic()
-    agreed, differ = compare(given.seed, given.calls, given.command)
+    agreed, differ = compare(given.seed, given.calls, {} if given.any_stack else stack_limits(), given.command)
     print(f"  {agreed + differ} calls compared in {time.monotonic() - begun:.0f} s")
     print(f"{agreed} passed, {differ} failed")
     sys.exit(differ > 0)

@@ -120,17 +120,24 @@ static int run(bytes file, bytes steps, size_t room, marrowkite_answer wanted, b
          kept(s, steps) & holds_only(buffer, left);
 }
 
-/* The porter's lists but for the tasks, in which the cart is to end at some value. */
-#define PORTER_LISTS                                                                                                    \
-  BYTES(2, 3, 2), BYTES(0, 0, 1, 0, 1, 0, 1, 0, 1, 1, 2, 2, 2, 0, 1, 2, 0, 1, 0, 0), BYTES(0, 1, 2, 1, 0, 1, 1, 1)
+/* The porter's lists but for the tasks, in which the cart is to end at some value; with a situation, and a set of situations in
+ * which the pass is taken. */
+#define PORTER_IN(situation, set)                                                                                      \
+  situation, BYTES(2, 3, 2), BYTES(0, 0, 1, set, 0, 1, 0, 1, 255, 0, 1, 1, 2, 255, 2, 2, 0, 1, 255, 2, 0, 1, 0, 255, 0), BYTES(0, 1, 2, 1, 0, 1, 1, 1)
+#define PORTER_LISTS PORTER_IN(0, 255)
 #define TASKS(goal) BYTES(0, 0, 1, 1, 0, goal, 2, 0, 1)
 
-static int write_lists(bytes variables, bytes actions, bytes conditions, bytes tasks, uint32_t seed, size_t room,
-                       marrowkite_answer wanted, bytes left) {
+static int write_lists(uint8_t situation, bytes variables, bytes actions, bytes conditions, bytes tasks, uint32_t seed,
+                       size_t room, marrowkite_answer wanted, bytes left) {
   lent v = lend(variables), a = lend(actions), c = lend(conditions), t = lend(tasks), buffer = lend_room(room);
-  return same(marrowkite_write(v.at, v.len, a.at, a.len, c.at, c.len, t.at, t.len, seed, buffer.at, buffer.len), wanted) &
-         kept(v, variables) & kept(a, actions) & kept(c, conditions) & kept(t, tasks) & holds_only(buffer, left);
+  marrowkite_answer given =
+      marrowkite_write(situation, v.at, v.len, a.at, a.len, c.at, c.len, t.at, t.len, seed, buffer.at, buffer.len);
+  return same(given, wanted) & kept(v, variables) & kept(a, actions) & kept(c, conditions) & kept(t, tasks) & holds_only(buffer, left);
 }
+
+/* Two ways to load the cart, of which the second holds in situation 2 and in no other. */
+#define NIGHT_PORTER(situation, set)                                                                                    \
+  BYTES(8, situation, 1, 2, 2, 0, 0, 1, 7, set, 2, 0, 0, 1, 7, 4, 4, 0, 0, 1, 5, 0, 0, 0, 1, 6)
 
 static int draw(uint64_t seed, uint64_t count, size_t room, marrowkite_answer wanted, bytes left) {
   lent buffer = lend_room(room);
@@ -272,7 +279,15 @@ int main(void) {
                                  write_lists(PORTER_LISTS, TASKS(2), 0, 60, REFUSED(5, 50, 0)) &
                                  write_lists(PORTER_LISTS, TASKS(3), 1, 60, REFUSED(5, 42, 0)) &
                                  write_lists(PORTER_LISTS, NOTHING, 1, 60, REFUSED(3, 38, 0)) &
-                                 write_lists(NOTHING, NOTHING, NOTHING, NOTHING, 1, 60, REFUSED(3, 0, 0)));
+                                 write_lists(0, NOTHING, NOTHING, NOTHING, NOTHING, 1, 60, REFUSED(3, 0, 0)));
+  report("situations", write_lists(PORTER_IN(8, 255), TASKS(2), 1, 60, REFUSED(5, 0, 0)) &
+                           write_lists(PORTER_IN(7, 255), TASKS(2), 1, 57, REFUSED(13, 58, 0)) &
+                           write_lists(PORTER_IN(7, 127), TASKS(2), 1, 59, REFUSED(13, 60, 0)) &
+                           check(NIGHT_PORTER(1, 6), DONE(2, 1)) & check(NIGHT_PORTER(2, 6), ANSWER(7, 10, 0)) &
+                           plan(NIGHT_PORTER(1, 2), BYTES(0, 1), 8, DONE(1, 0), BYTES(0)) &
+                           plan(NIGHT_PORTER(2, 1), BYTES(0, 1), 8, DONE(1, 0), BYTES(1)) &
+                           plan(NIGHT_PORTER(3, 1), BYTES(0, 1), 8, REFUSED(10, 0, 0)) &
+                           run(NIGHT_PORTER(2, 1), BYTES(0), 8, REFUSED(20, 0, 0)));
   report("single records", record_at(PORTER, 18, (marrowkite_record){0, 3, 19, 2, 21}) &
                                record_at(PORTER, 55, (marrowkite_record){0, 6, 56, 0, 56}) &
                                record_at(PORTER, 0, (marrowkite_record){0, 1, 1, 1, 2}) &

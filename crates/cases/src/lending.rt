@@ -4,8 +4,8 @@
 //     seeded ROOM            plan with the file's seed
 //     run ROOM LIST
 //     draw ROOM SEED COUNT
-//     write ROOM SEED V A C T   a file from lists, which are the file's bytes: V of variables, then A of actions, C of
-//                               conditions, T of tasks
+//     write ROOM SEED SITUATION V A C T   a file from lists, which are the file's bytes: V of variables, then A of actions,
+//                                         C of conditions, T of tasks
 use crate::show;
 use crate::words::bytes;
 use crate::words::front;
@@ -71,14 +71,15 @@ fn call(word: u64, line: &[u8], file: &[u8], list: &[u8], room: &mut [u8]) -> bo
 }
 
 fn write(line: &[u8], file: &[u8], room: &mut [u8]) -> Answer {
-    let actions = rest(file, number(line, 3) as usize);
-    let conditions = rest(actions, number(line, 4) as usize);
-    let tasks = rest(conditions, number(line, 5) as usize);
+    let actions = rest(file, number(line, 4) as usize);
+    let conditions = rest(actions, number(line, 5) as usize);
+    let tasks = rest(conditions, number(line, 6) as usize);
     writer::write(
-        front(file, number(line, 3) as usize),
-        front(actions, number(line, 4) as usize),
-        front(conditions, number(line, 5) as usize),
-        front(tasks, number(line, 6) as usize),
+        (number(line, 3) % 256) as u8,
+        front(file, number(line, 4) as usize),
+        front(actions, number(line, 5) as usize),
+        front(conditions, number(line, 6) as usize),
+        front(tasks, number(line, 7) as usize),
         (number(line, 2) % 4294967296) as u32,
         room,
     )

@@ -17,13 +17,13 @@ use Rattle.study.proofs.Refusals.{refusals-numbered}
 use Rattle.spelling.specs.Lists.{fileOf}
 use Rattle.spelling.specs.Lent.{lent}
 use Rattle.spelling.specs.Write.{Writes, WriteAllows}
-use Rattle.compose.specs.Input.{seedIn, actionsAt, conditionsAt, tasksAt, endAt, between, variablesIn, actionsIn, conditionsIn, tasksIn}
+use Rattle.compose.specs.Input.{seedIn, situationIn, actionsAt, conditionsAt, tasksAt, endAt, between, variablesIn, actionsIn, conditionsIn, tasksIn}
 
 pub handed :
     (input before after : List ℕ) (r : Answer) (a b c d s : ℕ)
     → a ≡ actionsAt input → b ≡ conditionsAt input → c ≡ tasksAt input → d ≡ endAt input → s ≡ seedIn input
-    → WriteAllows (between 12 a input) (between a b input) (between b c input) (between c d input) s before r after
-    → WriteAllows (variablesIn input) (actionsIn input) (conditionsIn input) (tasksIn input) (seedIn input) before r after
+    → WriteAllows (situationIn input) (between 13 a input) (between a b input) (between b c input) (between c d input) s before r after
+    → WriteAllows (situationIn input) (variablesIn input) (actionsIn input) (conditionsIn input) (tasksIn input) (seedIn input) before r after
 handed input before after r a b c d s ea eb ec ed es w = rw (ea, eb, ec, ed, es) at w
 
 -- ---- what answer 0 says
@@ -43,8 +43,8 @@ fits-said file before (refused number place) e r after zero w =
 fits-said file before (says study) e r after zero w = fits file before r after (leb (length file) (length before)) refl zero w
 
 pub written-fits :
-    (variables actions conditions tasks : List ℕ) (seed : ℕ) (before : List ℕ) (r : Answer) (after : List ℕ) → r .number ≡ 0
-    → WriteAllows variables actions conditions tasks seed before r after → r .first ≤ length before
-written-fits variables actions conditions tasks seed before r after zero w =
-    let file = fileOf (lent variables actions conditions tasks seed) in
+    (situation : ℕ) (variables actions conditions tasks : List ℕ) (seed : ℕ) (before : List ℕ) (r : Answer) (after : List ℕ) → r .number ≡ 0
+    → WriteAllows situation variables actions conditions tasks seed before r after → r .first ≤ length before
+written-fits situation variables actions conditions tasks seed before r after zero w =
+    let file = fileOf (lent situation variables actions conditions tasks seed) in
     fits-said file before (reading file) refl r after zero w

@@ -37,8 +37,8 @@ roomy-said l before (says study) e room r after w =
     omega (arith, roomy (fileOf l) before r after _ refl (omega (arith, loads-short (fileOf l) study e)) w)
 
 pub never-13 :
-    (variables actions conditions tasks : List ℕ) (seed : ℕ) (before : List ℕ) → longestFile ≤ length before → (r : Answer) (after : List ℕ)
-    → WriteAllows variables actions conditions tasks seed before r after → r .number ≢ 13
-never-13 variables actions conditions tasks seed before room r after w thirteen =
-    let l = lent variables actions conditions tasks seed in
+    (situation : ℕ) (variables actions conditions tasks : List ℕ) (seed : ℕ) (before : List ℕ) → longestFile ≤ length before → (r : Answer) (after : List ℕ)
+    → WriteAllows situation variables actions conditions tasks seed before r after → r .number ≢ 13
+never-13 situation variables actions conditions tasks seed before room r after w thirteen =
+    let l = lent situation variables actions conditions tasks seed in
     omega (arith, roomy-said l before (reading (fileOf l)) refl room r after w)

@@ -1,12 +1,12 @@
--- The lists that the program's input stands for: a head that says how many bytes of each come, with the seed, and behind it those bytes.
+-- The lists that the program's input stands for: a head that says how many bytes of each come, with the seed and the situation, and behind it those bytes.
 -- Assumes nothing.
 use Prim.Native.Nat.{ℕ, _+_, _*_, _-_}
 use mathlib.Core.List.{List}
 use lib.ListN.{getD, take, drop}
 
--- a head of 12 bytes, and four lists of 65,535 at most
+-- a head of 13 bytes, and four lists of 65,535 at most
 abbrev pub inputLength : ℕ
-inputLength = 262152
+inputLength = 262153
 
 -- two bytes, most significant first
 abbrev pub numberAt : List ℕ → ℕ → ℕ
@@ -15,9 +15,12 @@ numberAt input at = 256 * getD input at 0 + getD input (at + 1) 0
 abbrev pub seedIn : List ℕ → ℕ
 seedIn input = 65536 * numberAt input 8 + numberAt input 10
 
+abbrev pub situationIn : List ℕ → ℕ
+situationIn input = getD input 12 0
+
 -- where the lists begin, and where the last ends
 abbrev pub actionsAt : List ℕ → ℕ
-actionsAt input = 12 + numberAt input 0
+actionsAt input = 13 + numberAt input 0
 
 abbrev pub conditionsAt : List ℕ → ℕ
 conditionsAt input = actionsAt input + numberAt input 2
@@ -33,7 +36,7 @@ abbrev pub between : ℕ → ℕ → List ℕ → List ℕ
 between from to input = take (to - from) (drop from input)
 
 abbrev pub variablesIn : List ℕ → List ℕ
-variablesIn input = between 12 (actionsAt input) input
+variablesIn input = between 13 (actionsAt input) input
 
 abbrev pub actionsIn : List ℕ → List ℕ
 actionsIn input = between (actionsAt input) (conditionsAt input) input

@@ -1,23 +1,23 @@
 // Writes the study file that the lists on standard input stand for, or prints the refusal.
 //
-// The input begins with how many bytes of variables, actions, conditions and tasks come, two bytes each, and the seed, four
-// bytes, all most significant first. Then come those bytes. What does not come is 0, and nothing behind them is read.
+// The input begins with how many bytes of variables, actions, conditions and tasks come, two bytes each, the seed, four
+// bytes, all most significant first, and the situation, one byte. Then come those bytes. What does not come is 0, and nothing behind them is read.
 // The output is the line `written` with the file's length, then the file; or a refusal's line.
 ghost use Prim.Native.Nat.{_+_, _≤_, _<_};
 ghost use mathlib.Core.Path.{_≡_};
 ghost use lib.ListN.{length};
 ghost use Rattle.lawful.specs.Lengths.{longestFile};
 ghost use Rattle.spelling.specs.Write.{WriteAllows};
-ghost use Rattle.compose.specs.Input.{inputLength, numberAt, seedIn, variablesIn, actionsIn, conditionsIn, tasksIn};
+ghost use Rattle.compose.specs.Input.{inputLength, numberAt, seedIn, situationIn, variablesIn, actionsIn, conditionsIn, tasksIn};
 use answer::Answer;
 use libc::STDIN_FILENO;
 use libc::STDOUT_FILENO;
 
-// The longest input: a head of 12 bytes, and four lists of 65,535.
-const INPUT: usize = 262152;
+// The longest input: a head of 13 bytes, and four lists of 65,535.
+const INPUT: usize = 262153;
 
 // The longest file.
-const ROOM: usize = 25030;
+const ROOM: usize = 25544;
 
 fn main() {
     let mut input = [0u8; INPUT];
@@ -50,15 +50,16 @@ fn print_refusal(answer: Answer) {
 // Writes into room for the longest file, so that 13 is never answered.
 fn compose(input: &[u8], file: &mut [u8]) -> Answer
     requires { ⌜ (length (now input) ≡ inputLength) × (length (now file) ≡ longestFile) ⌝ }
-    ensures { λ r. ⌜ WriteAllows (variablesIn (now (input .entry))) (actionsIn (now (input .entry))) (conditionsIn (now (input .entry)))
+    ensures { λ r. ⌜ WriteAllows (situationIn (now (input .entry))) (variablesIn (now (input .entry))) (actionsIn (now (input .entry))) (conditionsIn (now (input .entry)))
         (tasksIn (now (input .entry))) (seedIn (now (input .entry))) (now (file .entry)) r (now (file .exit)) ⌝ }
 {
-    let actions = 12 + number_at(input, 0);
+    let actions = 13 + number_at(input, 0);
     let conditions = actions + number_at(input, 2);
     let tasks = conditions + number_at(input, 4);
     let end = tasks + number_at(input, 6);
     writer::write(
-        &input[12..actions],
+        input[12],
+        &input[13..actions],
         &input[actions..conditions],
         &input[conditions..tasks],
         &input[tasks..end],

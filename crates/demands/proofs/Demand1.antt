@@ -47,6 +47,6 @@ pub refused-draw-alters-nothing : (seed count : ℕ) (before : List ℕ) → Ref
 refused-draw-alters-nothing seed count before = draw-unaltered (notDrawn seed count (length before)) (drawnLast seed count) _ before
 
 pub refused-write-alters-nothing :
-    (variables actions conditions tasks : List ℕ) (seed : ℕ) (before : List ℕ)
-    → RefusalAltersNothing (WriteAllows variables actions conditions tasks seed before) before
+    (situation : ℕ) (variables actions conditions tasks : List ℕ) (seed : ℕ) (before : List ℕ)
+    → RefusalAltersNothing (WriteAllows situation variables actions conditions tasks seed before) before
 refused-write-alters-nothing = write-unaltered

@@ -26,7 +26,7 @@ module _ (file : List ℕ) (t : Study) (loads : LoadsAs file t) where
       omega (
         arith,
         distinct-below list (length (t .actions)) (order-distinct (OnAWalk t) (ComesBefore t) list (straight-is-order lawful straight))
-            (straight-usable straight),
+            (λ x h. straight-usable straight x h .there),
         lawful .few-actions,
       )
 

@@ -1,6 +1,6 @@
 -- Lent bytes, entry by entry: an entry that is lent whole, and what stands for one that is not.
 -- Assumes nothing.
-use mathlib.Core.Path.{_≡_, refl, ap}
+use mathlib.Core.Path.{_≡_, refl}
 use mathlib.Core.List.{List, [], _∷_, _++_, map, append-assoc}
 use Prim.Native.Nat.{ℕ, suc, _+_, _*_, _≤_, _<_}
 use native.Mathlib.Numerals.{add-one}
@@ -9,9 +9,9 @@ use lib.ListN.{length, getD, drop, length-drop}
 use lib.Seq.{drop-drop}
 use Rattle.study.specs.Study.{Condition}
 use Rattle.study.specs.Reading.{Record, variable, action, task}
-use Rattle.spelling.specs.Lists.{conditionRecord, taskRecord, actionRecords}
+use Rattle.spelling.specs.Lists.{conditionRecord, taskRecord, timesRecord, actionRecords}
 use Rattle.spelling.specs.Lent.{conditionsIn, firstOf, left, actionsIn, errandsIn, unlent, unlentCondition}
-use Rattle.spelling.proofs.LentBytes.{one-byte, two-bytes, three-bytes, four-bytes, conditions-behind}
+use Rattle.spelling.proofs.LentBytes.{one-byte, two-bytes, three-bytes, five-bytes, conditions-behind}
 use Rattle.drafting.specs.Drafts.{firstCondition}
 
 -- the first of some conditions, and the others
@@ -24,6 +24,10 @@ first-of n (c ∷ rest) = refl
 
 pub variable-lent : (bytes : List ℕ) (i : ℕ) (rest : List Record) → i < length bytes → map variable (drop i bytes) ++ rest ≡ variable (getD bytes i 0) ∷ (map variable (drop (i + 1) bytes) ++ rest)
 variable-lent bytes i rest h = rw (one-byte bytes i (omega arith))
+
+pub no-variable-lent : (bytes : List ℕ) (rest : List Record) → length bytes ≡ 0 → map variable bytes ++ rest ≡ rest
+no-variable-lent [] rest e = refl
+no-variable-lent (n ∷ bytes) rest e = absurd (omega arith)
 
 -- ---- conditions
 
@@ -54,25 +58,25 @@ no-condition bytes i rest = refl
 -- ---- actions
 
 entry-records :
-    (v p q n : ℕ) (bytes : List ℕ) (cs : List Condition) (rest : List Record)
-    → actionRecords (actionsIn (v ∷ p ∷ q ∷ n ∷ bytes) cs) ++ rest
-    ≡ action v p q ∷ (map conditionRecord (firstOf n cs) ++ (actionRecords (actionsIn bytes (drop n cs)) ++ rest))
+    (v p q set n : ℕ) (bytes : List ℕ) (cs : List Condition) (rest : List Record)
+    → actionRecords (actionsIn (v ∷ p ∷ q ∷ set ∷ n ∷ bytes) cs) ++ rest
+    ≡ action v p q ∷ (map conditionRecord (firstOf n cs) ++ (timesRecord set ++ (actionRecords (actionsIn bytes (drop n cs)) ++ rest)))
 unfolding actionsIn actionRecords
-entry-records v p q n bytes cs rest =
-    ap (λ (l : List Record). action v p q ∷ l) (append-assoc (map conditionRecord (firstOf n cs)) (actionRecords (actionsIn bytes (drop n cs))) rest)
+entry-records v p q set n bytes cs rest = simp append-assoc
 
 pub action-lent :
-    (actions : List ℕ) (i : ℕ) (conditions : List ℕ) (used : ℕ) (rest : List Record) → i + 4 ≤ length actions
+    (actions : List ℕ) (i : ℕ) (conditions : List ℕ) (used : ℕ) (rest : List Record) → i + 5 ≤ length actions
     → actionRecords (actionsIn (drop i actions) (conditionsIn (drop used conditions))) ++ rest
     ≡ action (getD actions i 0) (getD actions (i + 1) 0) (getD actions (i + 2) 0)
-    ∷ (map conditionRecord (firstOf (getD actions (i + 3) 0) (conditionsIn (drop used conditions)))
-    ++ (actionRecords (actionsIn (drop (i + 4) actions) (conditionsIn (drop (used + 2 * getD actions (i + 3) 0) conditions))) ++ rest))
+    ∷ (map conditionRecord (firstOf (getD actions (i + 4) 0) (conditionsIn (drop used conditions)))
+    ++ (timesRecord (getD actions (i + 3) 0)
+    ++ (actionRecords (actionsIn (drop (i + 5) actions) (conditionsIn (drop (used + 2 * getD actions (i + 4) 0) conditions))) ++ rest)))
 action-lent actions i conditions used rest h =
     rw (
-      four-bytes actions i h,
-      entry-records (getD actions i 0) (getD actions (i + 1) 0) (getD actions (i + 2) 0) (getD actions (i + 3) 0) (drop (i + 4) actions) (conditionsIn (drop used conditions)) rest,
-      conditions-behind (getD actions (i + 3) 0) (drop used conditions),
-      drop-drop (2 * getD actions (i + 3) 0) used conditions,
+      five-bytes actions i h,
+      entry-records (getD actions i 0) (getD actions (i + 1) 0) (getD actions (i + 2) 0) (getD actions (i + 3) 0) (getD actions (i + 4) 0) (drop (i + 5) actions) (conditionsIn (drop used conditions)) rest,
+      conditions-behind (getD actions (i + 4) 0) (drop used conditions),
+      drop-drop (2 * getD actions (i + 4) 0) used conditions,
     )
 
 pub no-action :
@@ -90,7 +94,7 @@ no-action actions i conditions used rest h g =
 -- bytes or conditions are left that make no action: one is refused in their place
 pub action-unlent :
     (actions : List ℕ) (i : ℕ) (conditions : List ℕ) (used : ℕ) (rest : List Record)
-    → length actions < i + 4 → (length actions ≤ i → length conditions ≤ used → ⊥)
+    → length actions < i + 5 → (length actions ≤ i → length conditions ≤ used → ⊥)
     → (more : List Record) × (actionRecords (actionsIn (drop i actions) (conditionsIn (drop used conditions))) ++ rest ≡ action unlent unlent unlent ∷ more)
 unfolding actionsIn actionRecords conditionsIn left
 action-unlent actions i conditions used rest h some =
@@ -98,7 +102,7 @@ action-unlent actions i conditions used rest h some =
     (λ x y. some (omega (arith, length-drop i actions)) (omega (arith, length-drop used conditions)))
   where
     short :
-        (a c : List ℕ) → length a < 4 → (length a ≡ 0 → length c ≡ 0 → ⊥)
+        (a c : List ℕ) → length a < 5 → (length a ≡ 0 → length c ≡ 0 → ⊥)
         → (more : List Record) × (actionRecords (actionsIn a (conditionsIn c)) ++ rest ≡ action unlent unlent unlent ∷ more)
     short [] [] g s = absurd (s refl refl)
     short [] (v ∷ []) g s = (_, refl)
@@ -106,7 +110,8 @@ action-unlent actions i conditions used rest h some =
     short (v ∷ []) c g s = (_, refl)
     short (v ∷ p ∷ []) c g s = (_, refl)
     short (v ∷ p ∷ q ∷ []) c g s = (_, refl)
-    short (v ∷ p ∷ q ∷ n ∷ a) c g s = absurd (omega arith)
+    short (v ∷ p ∷ q ∷ n ∷ []) c g s = (_, refl)
+    short (v ∷ p ∷ q ∷ n ∷ m ∷ a) c g s = absurd (omega arith)
 
 -- ---- tasks
 

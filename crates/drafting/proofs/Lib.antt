@@ -1,4 +1,6 @@
+pub mod Turns
 pub mod Stops
 pub mod OneRecord
 pub mod LentBytes
+pub mod Ends
 pub mod Starts

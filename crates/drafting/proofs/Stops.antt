@@ -34,15 +34,15 @@ module _ {counts : List ℕ} {P : Progress → Type 0} where
   pub keeps-more : {Q : Progress → Type 0} {s : Step} → Keeps counts P s → ((q : Progress) → P q → Q q) → Keeps counts Q s
   keeps-more k f = record { on = λ q e. (k .on q e .0, f q (k .on q e .1)) }
 
-module _ {file counts marks : List ℕ} {to-come : List Record} where
-  pub on-leads : {p : Progress} → Drafted file counts marks p to-come → Leads file counts marks to-come (On p)
+module _ {file counts : List ℕ} {to-come : List Record} where
+  pub on-leads : {p : Progress} → Drafted file counts p to-come → Leads file counts to-come (On p)
   on-leads h = record {
-    on = λ q e. subst (λ (p : Progress). Drafted file counts marks p to-come) (same e) h;
+    on = λ q e. subst (λ (p : Progress). Drafted file counts p to-come) (same e) h;
     refuses = λ n place e. differ e (λ z. omega arith);
     is-not-done = λ q e. differ e (λ z. omega arith);
   }
 
-  pub refused-leads : {n place : ℕ} → reading file ≡ refused n place → Leads file counts marks to-come (Refused n place)
+  pub refused-leads : {n place : ℕ} → reading file ≡ refused n place → Leads file counts to-come (Refused n place)
   refused-leads says = record {
     on = λ q e. differ e (λ z. omega arith);
     refuses = λ n place e. says ∙ also e;
@@ -54,16 +54,16 @@ module _ {file counts marks : List ℕ} {to-come : List Record} where
 
   -- where a step has stopped, the tables and the records to come do not matter
   pub stopped-leads :
-      {counts′ marks′ : List ℕ} {there : List Record} {s : Step}
-      → OneOf (1 ∷ 2 ∷ []) (tagOf the-type s) → Leads file counts marks to-come s → Leads file counts′ marks′ there s
+      {counts′ : List ℕ} {there : List Record} {s : Step}
+      → OneOf (1 ∷ 2 ∷ []) (tagOf the-type s) → Leads file counts to-come s → Leads file counts′ there s
   stopped-leads h l = record { on = λ q e. absurd (not-on h e); refuses = l .refuses; is-not-done = l .is-not-done }
 
   -- a step that cannot go on leads to any records
   pub leads-nowhere :
-      {there : List Record} {s : Step} → ((p : Progress) → s ≡ On p → ⊥) → Leads file counts marks to-come s → Leads file counts marks there s
+      {there : List Record} {s : Step} → ((p : Progress) → s ≡ On p → ⊥) → Leads file counts to-come s → Leads file counts there s
   leads-nowhere f l = record { on = λ q e. absurd (f q e); refuses = l .refuses; is-not-done = l .is-not-done }
 
-  pub stopped-judged : (s : Step) → OneOf (1 ∷ 2 ∷ []) (tagOf the-type s) → Leads file counts marks to-come s → JudgedAs file (refusalOf s)
+  pub stopped-judged : (s : Step) → OneOf (1 ∷ 2 ∷ []) (tagOf the-type s) → Leads file counts to-come s → JudgedAs file (refusalOf s)
   stopped-judged (On p) h l = absurd (not-on {p = p} h refl)
   stopped-judged (Refused n place) h l = l .refuses n place refl
   stopped-judged (Done p) h l = absurd (l .is-not-done p refl)

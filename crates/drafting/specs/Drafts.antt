@@ -1,38 +1,67 @@
 -- Halfway through the lists: what has been judged so far, with the records still to come, is what the file that they stand for says.
 -- Assumes nothing.
-use Prim.Native.Nat.{ℕ, _≤_}
+use Prim.Native.Nat.{ℕ, _+_, _*_, _≤_}
 use mathlib.Core.Path.{_≡_}
+use mathlib.Core.Logic.{_⊎_}
+use mathlib.Core.Bool.{true, false}
 use mathlib.Core.List.{List, [], _∷_}
 use lib.ListN.{length, drop}
 use Rattle.study.specs.Study.{Condition}
-use Rattle.study.specs.Reading.{Record, Draft, reading, refused}
+use Rattle.study.specs.Reading.{Record, Draft, mayFollow, reading, refused}
+use Rattle.lawful.specs.Lengths.{bytesOfPresent}
 use Rattle.entering.specs.declared.Progress.{Progress}
 use Rattle.entering.specs.declared.Step.{Step}
 use Rattle.entering.specs.declared.Step.the-variants.{On, Refused, Done}
 use Rattle.pacing.specs.Reads.{Bounds, Knows, Reached}
-use Rattle.spelling.specs.Spelling.{spelled}
+use Rattle.spelling.specs.Spelling.{kindOf, spelled}
+use Rattle.spelling.specs.Lists.{Lists}
 use Rattle.spelling.specs.Lent.{unlentCondition}
+use Rattle.spelling.proofs.ReadBack.{Retold}
+use Rattle.repeats.specs.Repeats.{Repeated}
 use Rattle.drafting.specs.declared.Judged.{Judged}
 use Rattle.drafting.specs.declared.Judged.the-variants as Said-of
 
+-- after a record of this kind no variable has come yet; a variable, an action, a task that is wanted may come
+abbrev pub NoVariableYet : ℕ → Type 0
+NoVariableYet last = (last ≡ 0) ⊎ (last ≡ 8)
+
+abbrev pub VariablesGoOn : ℕ → Type 0
+VariablesGoOn last = mayFollow false last 1 ≡ true
+
+abbrev pub ActionsGoOn : ℕ → Type 0
+ActionsGoOn last = mayFollow false last 2 ≡ true
+
+abbrev pub TasksGoOn : ℕ → Type 0
+TasksGoOn last = mayFollow true last 4 ≡ true
+
+-- the first of the records is one that may not come before a variable
+abbrev pub BehindVariables : List Record → Type 0
+BehindVariables [] = ⊥
+BehindVariables (r ∷ rest) = (2 ≤ kindOf r) × (kindOf r ≤ 5)
+
 -- at a place of the file, with the records to come
-pub record Drafted (file counts marks : List ℕ) (p : Progress) (to-come : List Record) : Type 0 where
+pub record Drafted (file counts : List ℕ) (p : Progress) (to-come : List Record) : Type 0 where
   pub draft : Draft
   pub reached : Reached file (p .at) draft
-  pub knows : Knows p counts marks draft
+  pub retold : Retold file (p .at) draft
+  pub knows : Knows p counts draft
   pub wide : length counts ≡ 32
   pub rest : drop (p .at) file ≡ spelled to-come
   pub inside : p .at ≤ length file
 
 -- a step leads on to the records to come, or it is the reader's refusal
-pub record Leads (file counts marks : List ℕ) (to-come : List Record) (r : Step) : Type 0 where
-  pub on : (p : Progress) → r ≡ On p → Drafted file counts marks p to-come
+pub record Leads (file counts : List ℕ) (to-come : List Record) (r : Step) : Type 0 where
+  pub on : (p : Progress) → r ≡ On p → Drafted file counts p to-come
   pub refuses : (n place : ℕ) → r ≡ Refused n place → reading file ≡ refused n place
   pub is-not-done : (p : Progress) → r ≡ Done p → ⊥
 
 -- where a step goes on, it stays in range, and this is so of it
 pub record Keeps (counts : List ℕ) (P : Progress → Type 0) (r : Step) : Type 0 where
   pub on : (p : Progress) → r ≡ On p → Bounds p counts × P p
+
+-- the place of the first action that repeats an earlier one, in the file that the lists stand for, or 0 if none does
+abbrev pub RepeatedIn : Lists → ℕ → Type 0
+RepeatedIn l place = Repeated (l .situation) (bytesOfPresent (l .situation) + 2 * length (l .variables)) (l .actions) place
 
 -- the first of the conditions, and what stands for it where there is none
 abbrev pub firstCondition : List Condition → Condition

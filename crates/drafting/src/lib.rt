@@ -7,10 +7,10 @@ ghost use lib.ListN.{length, drop, getD};
 ghost use Rattle.study.specs.Reading.{Record, variable, action, task, seed, end};
 ghost use Rattle.tables.specs.Rows.{countColumn};
 ghost use Rattle.pacing.specs.Reads.{Bounds, origin};
-ghost use Rattle.spelling.specs.Lists.{conditionRecord, taskRecord, actionRecords, fileOf};
+ghost use Rattle.spelling.specs.Lists.{Lists, conditionRecord, timesRecord, presentRecord, taskRecord, actionRecords, fileOf};
 ghost use Rattle.spelling.specs.Lent.{conditionsIn, firstOf, actionsIn, errandsIn, lent};
 ghost use Rattle.drafting.specs.Judges.{JudgedAs};
-ghost use Rattle.drafting.specs.Drafts.{Drafted, Leads, Keeps, firstCondition, refusalOf};
+ghost use Rattle.drafting.specs.Drafts.{NoVariableYet, VariablesGoOn, ActionsGoOn, TasksGoOn, BehindVariables, Drafted, Leads, Keeps, RepeatedIn, firstCondition, refusalOf};
 use entering::Progress;
 use entering::Step;
 use judging::order;
@@ -24,24 +24,16 @@ pub enum Judged {
     Refused { number: u8, place: usize },
 }
 
-fn judge_variable(p: Progress, n: u8, rows: &mut [[u8; 3]; 32]) -> Step
-    requires { ⌜ Bounds p (countColumn (now rows)) × (p .last ≤ 1) ⌝ }
-    ensures { λ r. ⌜ Keeps (countColumn (now (rows .exit))) (λ q. q .last ≤ 1) r ⌝ }
-    ensures { λ r. ⌜ ((file marks : List ℕ) (rest : List Record)
-        → Drafted file (countColumn (now (rows .entry))) marks p (variable n ∷ rest)
-        → Leads file (countColumn (now (rows .exit))) marks rest r) ⌝ }
+// The situation, unless it is not written.
+fn judge_present(n: u8) -> Step
+    ensures { λ r. ⌜ ((counts : List ℕ) → Keeps counts (λ q. NoVariableYet (q .last) × (n ≤ 7)) r) ⌝ }
+    ensures { λ r. ⌜ ((file counts : List ℕ) (rest : List Record)
+        → Drafted file counts origin (presentRecord n ++ rest)
+        → Leads file counts rest r) ⌝ }
 {
-    entering::on_variable(p, n, p.at + 2, rows)
-}
-
-fn judge_variables(variables: &[u8], rows: &mut [[u8; 3]; 32]) -> Step
-    ensures { λ r. ⌜ Keeps (countColumn (now (rows .exit))) (λ p. p .last ≤ 1) r ⌝ }
-    ensures { λ r. ⌜ ((file marks : List ℕ) (rest : List Record)
-        → Drafted file (countColumn (now (rows .entry))) marks origin (map variable (now (variables .entry)) ++ rest)
-        → Leads file (countColumn (now (rows .exit))) marks rest r) ⌝ }
-{
-    let mut p = Progress {
+    let p = Progress {
         at: 0,
+        situation: 0,
         vars: 0,
         actions: 0,
         tasks: 0,
@@ -51,6 +43,38 @@ fn judge_variables(variables: &[u8], rows: &mut [[u8; 3]; 32]) -> Step
         many: 0,
         seed: 0,
     };
+    if n == 0 {
+        return Step::On(p);
+    }
+    entering::on_present(p, n, 2)
+}
+
+fn judge_variable(p: Progress, n: u8, rows: &mut [[u8; 3]; 32]) -> Step
+    requires { ⌜ Bounds p (countColumn (now rows)) × VariablesGoOn (p .last) ⌝ }
+    ensures { λ r. ⌜ Keeps (countColumn (now (rows .exit))) (λ q. (q .last ≡ 1) × (1 ≤ q .at)) r ⌝ }
+    ensures { λ r. ⌜ ((file : List ℕ) (rest : List Record)
+        → Drafted file (countColumn (now (rows .entry))) p (variable n ∷ rest)
+        → Leads file (countColumn (now (rows .exit))) rest r) ⌝ }
+{
+    entering::on_variable(p, n, p.at + 2, rows)
+}
+
+// Some variable: without one no other record may come.
+fn judge_variables(begin: Progress, variables: &[u8], rows: &mut [[u8; 3]; 32]) -> Step
+    requires { ⌜ Bounds begin (countColumn (now rows)) × NoVariableYet (begin .last) ⌝ }
+    ensures { λ r. ⌜ Keeps (countColumn (now (rows .exit))) (λ q. (q .last ≡ 1) × (1 ≤ q .at)) r ⌝ }
+    ensures { λ r. ⌜ ((file : List ℕ) (rest : List Record)
+        → BehindVariables rest
+        → Drafted file (countColumn (now (rows .entry))) begin (map variable (now (variables .entry)) ++ rest)
+        → Leads file (countColumn (now (rows .exit))) rest r) ⌝ }
+{
+    if variables.len() == 0 {
+        return Step::Refused {
+            number: 3,
+            place: begin.at,
+        };
+    }
+    let mut p = begin;
     let mut i = 0;
     while i < variables.len() {
         let step = judge_variable(p, variables[i], rows);
@@ -64,36 +88,23 @@ fn judge_variables(variables: &[u8], rows: &mut [[u8; 3]; 32]) -> Step
 }
 
 // An action that goes on names a variable: one that is not lent never goes on.
-fn judge_action(
-    p: Progress,
-    v: u8,
-    pre: u8,
-    post: u8,
-    rows: &[[u8; 3]; 32],
-    marks: &mut [u8; 512],
-) -> Step
-    requires { ⌜ Bounds p (countColumn (now rows)) × (p .last ≤ 3) ⌝ }
-    ensures { λ r. ⌜ Keeps (countColumn (now (rows .entry))) (λ q. (q .last ≡ 2) × (v < 32)) r ⌝ }
+fn judge_action(p: Progress, v: u8, pre: u8, post: u8, rows: &[[u8; 3]; 32]) -> Step
+    requires { ⌜ Bounds p (countColumn (now rows)) × ActionsGoOn (p .last) ⌝ }
+    ensures { λ r. ⌜ Keeps (countColumn (now (rows .entry))) (λ q. (q .last ≡ 2) × (v < 32) × (q .actions ≡ p .actions + 1)) r ⌝ }
     ensures { λ r. ⌜ ((file : List ℕ) (rest : List Record)
-        → Drafted file (countColumn (now (rows .entry))) (now (marks .entry)) p (action v pre post ∷ rest)
-        → Leads file (countColumn (now (rows .entry))) (now (marks .exit)) rest r) ⌝ }
+        → Drafted file (countColumn (now (rows .entry))) p (action v pre post ∷ rest)
+        → Leads file (countColumn (now (rows .entry))) rest r) ⌝ }
 {
-    if !order::may_follow(p.tasks < p.vars, p.last, 2) {
-        return Step::Refused {
-            number: 3,
-            place: p.at,
-        };
-    }
-    entering::judge_action(p, v, pre, post, p.at + 4, rows, marks)
+    entering::judge_action(p, v, pre, post, p.at + 4, rows)
 }
 
 // The condition at a place of the lent bytes.
 fn judge_condition(p: Progress, conditions: &[u8], i: usize, rows: &[[u8; 3]; 32]) -> Step
     requires { ⌜ Bounds p (countColumn (now rows)) × (2 ≤ p .last) × (p .last ≤ 3) × (i ≤ length (now conditions)) ⌝ }
-    ensures { λ r. ⌜ Keeps (countColumn (now (rows .entry))) (λ q. (q .last ≡ 3) × (i + 2 ≤ length (now (conditions .entry)))) r ⌝ }
-    ensures { λ r. ⌜ ((file marks : List ℕ) (rest : List Record)
-        → Drafted file (countColumn (now (rows .entry))) marks p (conditionRecord (firstCondition (conditionsIn (drop i (now (conditions .entry))))) ∷ rest)
-        → Leads file (countColumn (now (rows .entry))) marks rest r) ⌝ }
+    ensures { λ r. ⌜ Keeps (countColumn (now (rows .entry))) (λ q. (q .last ≡ 3) × (i + 2 ≤ length (now (conditions .entry))) × (q .actions ≡ p .actions)) r ⌝ }
+    ensures { λ r. ⌜ ((file : List ℕ) (rest : List Record)
+        → Drafted file (countColumn (now (rows .entry))) p (conditionRecord (firstCondition (conditionsIn (drop i (now (conditions .entry))))) ∷ rest)
+        → Leads file (countColumn (now (rows .entry))) rest r) ⌝ }
 {
     let next = p.at + 3;
     if conditions.len() - i < 2 {
@@ -112,10 +123,10 @@ fn judge_conditions(
 ) -> Step
     requires { ⌜ Bounds begin (countColumn (now rows)) × (2 ≤ begin .last) × (begin .last ≤ 3) × (used ≤ length (now conditions)) ⌝ }
     ensures { λ r. ⌜ Keeps (countColumn (now (rows .entry)))
-        (λ q. (q .last ≤ 3) × (used + 2 * many ≤ length (now (conditions .entry)))) r ⌝ }
-    ensures { λ r. ⌜ ((file marks : List ℕ) (rest : List Record)
-        → Drafted file (countColumn (now (rows .entry))) marks begin (map conditionRecord (firstOf many (conditionsIn (drop used (now (conditions .entry))))) ++ rest)
-        → Leads file (countColumn (now (rows .entry))) marks rest r) ⌝ }
+        (λ q. (2 ≤ q .last) × (q .last ≤ 3) × (used + 2 * many ≤ length (now (conditions .entry))) × (q .actions ≡ begin .actions)) r ⌝ }
+    ensures { λ r. ⌜ ((file : List ℕ) (rest : List Record)
+        → Drafted file (countColumn (now (rows .entry))) begin (map conditionRecord (firstOf many (conditionsIn (drop used (now (conditions .entry))))) ++ rest)
+        → Leads file (countColumn (now (rows .entry))) rest r) ⌝ }
 {
     let mut p = begin;
     let mut i = used;
@@ -132,7 +143,21 @@ fn judge_conditions(
     Step::On(p)
 }
 
-// The action at a place of the lent bytes, with its conditions.
+// The situations of an action, unless they are not written.
+fn judge_times(p: Progress, n: u8) -> Step
+    requires { ⌜ (2 ≤ p .last) × (p .last ≤ 3) × (p .at ≤ 30000) ⌝ }
+    ensures { λ r. ⌜ ((counts : List ℕ) → Bounds p counts → Keeps counts (λ q. ActionsGoOn (q .last) × (q .actions ≡ p .actions)) r) ⌝ }
+    ensures { λ r. ⌜ ((file counts : List ℕ) (rest : List Record)
+        → Drafted file counts p (timesRecord n ++ rest)
+        → Leads file counts rest r) ⌝ }
+{
+    if n == 255 {
+        return Step::On(p);
+    }
+    entering::judge_times(p, n, p.at + 2)
+}
+
+// The action at a place of the lent bytes, with its conditions and its situations.
 fn judge_entry(
     p: Progress,
     actions: &[u8],
@@ -140,64 +165,62 @@ fn judge_entry(
     conditions: &[u8],
     used: usize,
     rows: &[[u8; 3]; 32],
-    marks: &mut [u8; 512],
 ) -> Step
-    requires { ⌜ Bounds p (countColumn (now rows)) × (p .last ≤ 3) × (i + 4 ≤ length (now actions)) × (used ≤ length (now conditions)) ⌝ }
+    requires { ⌜ Bounds p (countColumn (now rows)) × ActionsGoOn (p .last) × (i + 5 ≤ length (now actions)) × (used ≤ length (now conditions)) ⌝ }
     ensures { λ r. ⌜ Keeps (countColumn (now (rows .entry)))
-        (λ q. (q .last ≤ 3) × (used + 2 * getD (now (actions .entry)) (i + 3) 0 ≤ length (now (conditions .entry)))) r ⌝ }
+        (λ q. ActionsGoOn (q .last) × (used + 2 * getD (now (actions .entry)) (i + 4) 0 ≤ length (now (conditions .entry))) × (q .actions ≡ p .actions + 1)) r ⌝ }
     ensures { λ r. ⌜ ((file : List ℕ) (rest : List Record)
-        → Drafted file (countColumn (now (rows .entry))) (now (marks .entry)) p
+        → Drafted file (countColumn (now (rows .entry))) p
         (actionRecords (actionsIn (drop i (now (actions .entry))) (conditionsIn (drop used (now (conditions .entry))))) ++ rest)
-        → Leads file (countColumn (now (rows .entry))) (now (marks .exit))
-        (actionRecords (actionsIn (drop (i + 4) (now (actions .entry))) (conditionsIn (drop (used + 2 * getD (now (actions .entry)) (i + 3) 0) (now (conditions .entry))))) ++ rest) r) ⌝ }
+        → Leads file (countColumn (now (rows .entry)))
+        (actionRecords (actionsIn (drop (i + 5) (now (actions .entry))) (conditionsIn (drop (used + 2 * getD (now (actions .entry)) (i + 4) 0) (now (conditions .entry))))) ++ rest) r) ⌝ }
 {
-    let step = judge_action(p, actions[i], actions[i + 1], actions[i + 2], rows, marks);
-    let Step::On(after) = step else {
-        return step;
+    let by_action = judge_action(p, actions[i], actions[i + 1], actions[i + 2], rows);
+    let Step::On(acted) = by_action else {
+        return by_action;
     };
-    judge_conditions(after, actions[i + 3], conditions, used, rows)
+    let by_conditions = judge_conditions(acted, actions[i + 4], conditions, used, rows);
+    let Step::On(after) = by_conditions else {
+        return by_conditions;
+    };
+    judge_times(after, actions[i + 3])
 }
 
-fn judge_actions(
-    begin: Progress,
-    actions: &[u8],
-    conditions: &[u8],
-    rows: &[[u8; 3]; 32],
-    marks: &mut [u8; 512],
-) -> Step
-    requires { ⌜ Bounds begin (countColumn (now rows)) × (begin .last ≤ 1) ⌝ }
-    ensures { λ r. ⌜ Keeps (countColumn (now (rows .entry))) (λ q. q .last ≤ 3) r ⌝ }
+fn judge_actions(begin: Progress, actions: &[u8], conditions: &[u8], rows: &[[u8; 3]; 32]) -> Step
+    requires { ⌜ Bounds begin (countColumn (now rows)) × (begin .last ≡ 1) ⌝ }
+    ensures { λ r. ⌜ Keeps (countColumn (now (rows .entry)))
+        (λ q. TasksGoOn (q .last) × (length (now (actions .entry)) ≤ 1280)) r ⌝ }
     ensures { λ r. ⌜ ((file : List ℕ) (rest : List Record)
-        → Drafted file (countColumn (now (rows .entry))) (now (marks .entry)) begin
+        → Drafted file (countColumn (now (rows .entry))) begin
         (actionRecords (actionsIn (now (actions .entry)) (conditionsIn (now (conditions .entry)))) ++ rest)
-        → Leads file (countColumn (now (rows .entry))) (now (marks .exit)) rest r) ⌝ }
+        → Leads file (countColumn (now (rows .entry))) rest r) ⌝ }
 {
     let mut p = begin;
     let mut i = 0;
     let mut used = 0;
-    while 4 <= actions.len() - i {
-        let step = judge_entry(p, actions, i, conditions, used, rows, marks);
+    while 5 <= actions.len() - i {
+        let step = judge_entry(p, actions, i, conditions, used, rows);
         let Step::On(after) = step else {
             return step;
         };
         p = after;
-        used += 2 * tables::wide(actions[i + 3]);
-        i += 4;
+        used += 2 * tables::wide(actions[i + 4]);
+        i += 5;
     }
     if i == actions.len() && used == conditions.len() {
         return Step::On(p);
     }
-    judge_action(p, UNLENT, UNLENT, UNLENT, rows, marks)
+    judge_action(p, UNLENT, UNLENT, UNLENT, rows)
 }
 
 fn judge_task(p: Progress, v: u8, start: u8, goal: u8, rows: &mut [[u8; 3]; 32]) -> Step
-    requires { ⌜ Bounds p (countColumn (now rows)) × (p .last ≤ 4) ⌝ }
-    ensures { λ r. ⌜ Keeps (countColumn (now (rows .exit))) (λ q. q .last ≤ 4) r ⌝ }
-    ensures { λ r. ⌜ ((file marks : List ℕ) (rest : List Record)
-        → Drafted file (countColumn (now (rows .entry))) marks p (task v start goal ∷ rest)
-        → Leads file (countColumn (now (rows .exit))) marks rest r) ⌝ }
+    requires { ⌜ Bounds p (countColumn (now rows)) × TasksGoOn (p .last) ⌝ }
+    ensures { λ r. ⌜ Keeps (countColumn (now (rows .exit))) (λ q. TasksGoOn (q .last)) r ⌝ }
+    ensures { λ r. ⌜ ((file : List ℕ) (rest : List Record)
+        → Drafted file (countColumn (now (rows .entry))) p (task v start goal ∷ rest)
+        → Leads file (countColumn (now (rows .exit))) rest r) ⌝ }
 {
-    if !order::may_follow(p.tasks < p.vars, p.last, 4) {
+    if p.vars <= p.tasks {
         return Step::Refused {
             number: 3,
             place: p.at,
@@ -207,11 +230,11 @@ fn judge_task(p: Progress, v: u8, start: u8, goal: u8, rows: &mut [[u8; 3]; 32])
 }
 
 fn judge_tasks(begin: Progress, tasks: &[u8], rows: &mut [[u8; 3]; 32]) -> Step
-    requires { ⌜ Bounds begin (countColumn (now rows)) × (begin .last ≤ 4) ⌝ }
-    ensures { λ r. ⌜ Keeps (countColumn (now (rows .exit))) (λ q. q .last ≤ 4) r ⌝ }
-    ensures { λ r. ⌜ ((file marks : List ℕ) (rest : List Record)
-        → Drafted file (countColumn (now (rows .entry))) marks begin (map taskRecord (errandsIn (now (tasks .entry))) ++ rest)
-        → Leads file (countColumn (now (rows .exit))) marks rest r) ⌝ }
+    requires { ⌜ Bounds begin (countColumn (now rows)) × TasksGoOn (begin .last) ⌝ }
+    ensures { λ r. ⌜ Keeps (countColumn (now (rows .exit))) (λ q. TasksGoOn (q .last)) r ⌝ }
+    ensures { λ r. ⌜ ((file : List ℕ) (rest : List Record)
+        → Drafted file (countColumn (now (rows .entry))) begin (map taskRecord (errandsIn (now (tasks .entry))) ++ rest)
+        → Leads file (countColumn (now (rows .exit))) rest r) ⌝ }
 {
     let mut p = begin;
     let mut i = 0;
@@ -241,10 +264,13 @@ fn refusal(step: Step) -> Judged
     }
 }
 
-// The seed, and behind it the end, which may always come there.
-fn judge_end(p: Progress, n: u32) -> Judged
+// The seed, and behind it the end, which may always come there and decides 7.
+fn judge_end(p: Progress, n: u32, repeat: usize) -> Judged
     requires { ⌜ p .at ≤ 30000 ⌝ }
-    ensures { λ r. ⌜ ((file counts marks : List ℕ) → Drafted file counts marks p (seed n ∷ end ∷ []) → JudgedAs file r) ⌝ }
+    ensures { λ r. ⌜ ((l : Lists) (counts : List ℕ)
+        → Drafted (fileOf l) counts p (seed n ∷ end ∷ [])
+        → RepeatedIn l repeat
+        → JudgedAs (fileOf l) r) ⌝ }
 {
     if !order::may_follow(p.tasks < p.vars, p.last, 5) {
         return Judged::Refused {
@@ -256,20 +282,36 @@ fn judge_end(p: Progress, n: u32) -> Judged
     let Step::On(seeded) = step else {
         return refusal(step);
     };
+    if repeat != 0 {
+        return Judged::Refused {
+            number: 7,
+            place: repeat,
+        };
+    }
     Judged::Good(seeded.at + 1)
 }
 
 // What the reader says of the file that the lists stand for.
-pub fn judge(variables: &[u8], actions: &[u8], conditions: &[u8], tasks: &[u8], seed: u32) -> Judged
-    ensures { λ r. ⌜ JudgedAs (fileOf (lent (now (variables .entry)) (now (actions .entry)) (now (conditions .entry)) (now (tasks .entry)) seed)) r ⌝ }
+pub fn judge(
+    situation: u8,
+    variables: &[u8],
+    actions: &[u8],
+    conditions: &[u8],
+    tasks: &[u8],
+    seed: u32,
+) -> Judged
+    ensures { λ r. ⌜ JudgedAs (fileOf (lent situation (now (variables .entry)) (now (actions .entry)) (now (conditions .entry)) (now (tasks .entry)) seed)) r ⌝ }
 {
+    let by_situation = judge_present(situation);
+    let Step::On(opened) = by_situation else {
+        return refusal(by_situation);
+    };
     let mut rows = [[0u8; 3]; 32];
-    let by_variables = judge_variables(variables, &mut rows);
+    let by_variables = judge_variables(opened, variables, &mut rows);
     let Step::On(begun) = by_variables else {
         return refusal(by_variables);
     };
-    let mut marks = [0u8; 512];
-    let by_actions = judge_actions(begun, actions, conditions, &rows, &mut marks);
+    let by_actions = judge_actions(begun, actions, conditions, &rows);
     let Step::On(acted) = by_actions else {
         return refusal(by_actions);
     };
@@ -277,5 +319,6 @@ pub fn judge(variables: &[u8], actions: &[u8], conditions: &[u8], tasks: &[u8], 
     let Step::On(tasked) = by_tasks else {
         return refusal(by_tasks);
     };
-    judge_end(tasked, seed)
+    let repeat = repeats::first_repeat(situation, begun.at, actions);
+    judge_end(tasked, seed, repeat)
 }

@@ -6,7 +6,7 @@ use Prim.Native.Nat.{ℕ, _+_, _*_, _<_, _/_, _%_}
 use native.Mathlib.Omega.{arith}
 use lib.ListN.{getD, set}
 use Rattle.tables.specs.Tables.{actionTables}
-use Rattle.tables.specs.Rows.{Row, field, placeIn, countColumn, startColumn, goalColumn, seen}
+use Rattle.tables.specs.Rows.{Row, field, placeIn, manyIn, outIn, countColumn, startColumn, goalColumn, seen}
 use Rattle.tables.proofs.Columns.{column-set, column-kept}
 use Rattle.entering.specs.Steps.{withMany}
 
@@ -38,7 +38,8 @@ module _ (rows : List Row) (i : ℕ) where
         column-kept (field 1) refl rows i _ refl,
         column-kept (field 2) refl rows i _ refl,
         column-kept placeIn refl rows i _ refl,
-        column-set (field 3) rows i _,
+        column-set manyIn rows i _,
+        column-set outIn rows i _,
       )
 
   pub action-stored :
@@ -47,7 +48,7 @@ module _ (rows : List Row) (i : ℕ) where
       → (setters : List ℕ)
       → seen setters rows′
       ≡ actionTables setters (set (seen setters rows .vars) i v) (set (seen setters rows .pres) i pre) (set (seen setters rows .posts) i post)
-      (set (seen setters rows .places) i next) (set (seen setters rows .manys) i 0)
+      (set (seen setters rows .places) i next) (set (seen setters rows .manys) i 0) (set (seen setters rows .outs) i 0)
   action-stored v pre post next small e setters =
       rw (
         e,
@@ -55,6 +56,7 @@ module _ (rows : List Row) (i : ℕ) where
         column-set (field 1) rows i _,
         column-set (field 2) rows i _,
         column-set placeIn rows i _,
-        column-set (field 3) rows i _,
+        column-set manyIn rows i _,
+        column-set outIn rows i _,
         two-bytes next small,
       )

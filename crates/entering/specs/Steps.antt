@@ -1,10 +1,11 @@
 -- What one record does to the tables, and where the reading stands after it.
 -- Assumes nothing.
-use Prim.Native.Nat.{ℕ, _+_, _*_}
+use Prim.Native.Nat.{ℕ, _+_, _/_, _%_}
 use mathlib.Core.List.{List}
 use lib.Dec.{eqb}
 use lib.ListN.{set}
 use Rattle.plain.specs.Choose.{pick}
+use Rattle.bits.specs.Bits.{bit}
 use Rattle.tables.specs.Tables.{ActionTables, actionTables}
 use Rattle.entering.specs.declared.Progress.{Progress}
 use Rattle.entering.specs.declared.Step.{Step}
@@ -16,6 +17,7 @@ abbrev pub afterVariable : Progress → ℕ → Progress
 afterVariable p next =
     record {
       at = next;
+      situation = p .situation;
       vars = p .vars + 1;
       actions = p .actions;
       tasks = p .tasks;
@@ -30,6 +32,7 @@ abbrev pub afterAction : Progress → ℕ → ℕ → Progress
 afterAction p v next =
     record {
       at = next;
+      situation = p .situation;
       vars = p .vars;
       actions = p .actions + 1;
       tasks = p .tasks;
@@ -44,6 +47,7 @@ abbrev pub afterCondition : Progress → ℕ → ℕ → Progress
 afterCondition p v next =
     record {
       at = next;
+      situation = p .situation;
       vars = p .vars;
       actions = p .actions;
       tasks = p .tasks;
@@ -58,6 +62,7 @@ abbrev pub afterTask : Progress → ℕ → Progress
 afterTask p next =
     record {
       at = next;
+      situation = p .situation;
       vars = p .vars;
       actions = p .actions;
       tasks = p .tasks + 1;
@@ -72,6 +77,7 @@ abbrev pub afterSeed : Progress → ℕ → ℕ → Progress
 afterSeed p n next =
     record {
       at = next;
+      situation = p .situation;
       vars = p .vars;
       actions = p .actions;
       tasks = p .tasks;
@@ -80,6 +86,36 @@ afterSeed p n next =
       above = p .above;
       many = p .many;
       seed = n;
+    }
+
+abbrev pub afterTimes : Progress → ℕ → Progress
+afterTimes p next =
+    record {
+      at = next;
+      situation = p .situation;
+      vars = p .vars;
+      actions = p .actions;
+      tasks = p .tasks;
+      last = 7;
+      own = p .own;
+      above = p .above;
+      many = p .many;
+      seed = p .seed;
+    }
+
+abbrev pub afterPresent : Progress → ℕ → ℕ → Progress
+afterPresent p n next =
+    record {
+      at = next;
+      situation = n;
+      vars = p .vars;
+      actions = p .actions;
+      tasks = p .tasks;
+      last = 8;
+      own = p .own;
+      above = p .above;
+      many = p .many;
+      seed = p .seed;
     }
 
 -- on, unless there is a fault
@@ -94,18 +130,25 @@ stored f table i x = pick (eqb f 0) (set table i x) table
 abbrev pub storedAction : ℕ → ℕ → ℕ → ℕ → ℕ → ℕ → ActionTables → ActionTables
 storedAction f i v p q next t =
     record {
-      setters = stored f (t .setters) (16 * v + q) i;
+      setters = t .setters;
       vars = stored f (t .vars) i v;
       pres = stored f (t .pres) i p;
       posts = stored f (t .posts) i q;
       places = stored f (t .places) i next;
       manys = stored f (t .manys) i 0;
+      outs = stored f (t .outs) i 0;
     }
 
--- the tables of actions with the number of an action's conditions entered
+-- the tables of actions with the byte that tells how many conditions an action has, and 64 more where it is out of force
 abbrev pub withMany : ActionTables → ℕ → ℕ → ActionTables
-withMany t i many = actionTables (t .setters) (t .vars) (t .pres) (t .posts) (t .places) (set (t .manys) i many)
+withMany t i byte =
+    actionTables (t .setters) (t .vars) (t .pres) (t .posts) (t .places) (set (t .manys) i (byte % 64)) (set (t .outs) i (byte / 64))
 
 -- .. unless there is a fault
 abbrev pub storedMany : ℕ → ActionTables → ℕ → ℕ → ActionTables
-storedMany f t i many = actionTables (t .setters) (t .vars) (t .pres) (t .posts) (t .places) (stored f (t .manys) i many)
+storedMany f t i byte =
+    actionTables (t .setters) (t .vars) (t .pres) (t .posts) (t .places) (stored f (t .manys) i (byte % 64)) (stored f (t .outs) i (byte / 64))
+
+-- 64 where an action with such a set of situations is out of force
+abbrev pub outBy : ℕ → ℕ → ℕ
+outBy n situation = pick (bit n situation) 0 64

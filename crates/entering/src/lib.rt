@@ -1,18 +1,18 @@
 // One record taken: its fault, or its entry in the tables.
 ghost use mathlib.Core.Path.{_≡_};
 ghost use mathlib.Core.List.{List};
-ghost use Prim.Native.Nat.{ℕ, _≤_, _<_, _+_, _*_, _-_};
-ghost use lib.ListN.{getD};
+ghost use Prim.Native.Nat.{ℕ, _≤_, _<_, _+_, _-_};
 ghost use Rattle.tables.specs.Rows.{countColumn, startColumn, goalColumn, seen};
-ghost use Rattle.judging.specs.Faults.{variableFault, actionFault, conditionFault, taskFault, seedFault};
-ghost use Rattle.entering.specs.Steps.{afterVariable, afterAction, afterCondition, afterTask, afterSeed, unlessFault, stored, storedAction, storedMany, withMany};
+ghost use Rattle.judging.specs.Faults.{variableFault, actionFault, conditionFault, taskFault, seedFault, timesFault, presentFault};
+ghost use Rattle.entering.specs.Steps.{afterVariable, afterAction, afterCondition, afterTask, afterSeed, afterTimes, afterPresent, unlessFault, stored, storedAction, storedMany, withMany, outBy};
 use judging::faults;
 
-// Where the reading stands: the place to read on from, how many variables, actions and tasks were read, the kind of the
-// last record, the variable of the last action, the least variable that its next condition may name, how many
+// Where the reading stands: the place to read on from, the situation, how many variables, actions and tasks were read, the
+// kind of the last record, the variable of the last action, the least variable that its next condition may name, how many
 // conditions it has, and the seed.
 pub struct Progress {
     pub at: usize,
+    pub situation: u8,
     pub vars: usize,
     pub actions: usize,
     pub tasks: usize,
@@ -48,6 +48,7 @@ pub fn on_variable(p: Progress, n: u8, next: usize, rows: &mut [[u8; 3]; 32]) ->
     rows[vars] = [n, row[1], row[2]];
     Step::On(Progress {
         at: next,
+        situation: p.situation,
         vars: vars + 1,
         actions: p.actions,
         tasks: p.tasks,
@@ -71,6 +72,7 @@ pub fn on_seed(p: Progress, n: u64, next: usize) -> Step
     }
     Step::On(Progress {
         at: next,
+        situation: p.situation,
         vars: p.vars,
         actions: p.actions,
         tasks: p.tasks,
@@ -108,6 +110,7 @@ pub fn on_task(
     rows[i] = [row[0], start, goal];
     Step::On(Progress {
         at: next,
+        situation: p.situation,
         vars: p.vars,
         actions: p.actions,
         tasks: p.tasks + 1,
@@ -119,13 +122,13 @@ pub fn on_task(
     })
 }
 
-// Enters how many conditions an action has.
-pub fn enter_many(i: usize, many: u8, acts: &mut [[u8; 6]; 256])
+// Enters how many conditions an action has, and 64 more where it is out of force.
+pub fn enter_many(i: usize, byte: u8, acts: &mut [[u8; 6]; 256])
     requires { ⌜ i < 256 ⌝ }
-    ensures { λ _. ⌜ ((setters : List ℕ) → seen setters (now (acts .exit)) ≡ withMany (seen setters (now (acts .entry))) i many) ⌝ }
+    ensures { λ _. ⌜ ((setters : List ℕ) → seen setters (now (acts .exit)) ≡ withMany (seen setters (now (acts .entry))) i byte) ⌝ }
 {
     let row = acts[i];
-    acts[i] = [row[0], row[1], row[2], many, row[4], row[5]];
+    acts[i] = [row[0], row[1], row[2], byte, row[4], row[5]];
 }
 
 // Judges a condition: its fault, or where the reading stands after it.
@@ -142,6 +145,7 @@ pub fn judge_condition(p: Progress, v: u8, q: u8, next: usize, rows: &[[u8; 3]; 
     }
     Step::On(Progress {
         at: next,
+        situation: p.situation,
         vars: p.vars,
         actions: p.actions,
         tasks: p.tasks,
@@ -174,7 +178,7 @@ pub fn on_condition(
     step
 }
 
-// Judges an action: its fault, or its mark and where the reading stands after it.
+// Judges an action: its fault, or where the reading stands after it.
 pub fn judge_action(
     p: Progress,
     v: u8,
@@ -182,22 +186,20 @@ pub fn judge_action(
     post: u8,
     next: usize,
     rows: &[[u8; 3]; 32],
-    marks: &mut [u8; 512],
 ) -> Step
-    requires { ⌜ (p .vars ≤ 32) × ((k : ℕ) → k < p .vars → getD (countColumn (now rows)) k 0 ≤ 16) ⌝ }
-    ensures { λ r. ⌜ r ≡ unlessFault (actionFault (countColumn (now (rows .entry))) (now (marks .entry)) (p .vars) (p .actions) v pre post) p (afterAction p v next) ⌝ }
-    ensures { λ r. ⌜ now (marks .exit) ≡ stored (actionFault (countColumn (now (rows .entry))) (now (marks .entry)) (p .vars) (p .actions) v pre post) (now (marks .entry)) (16 * v + post) 1 ⌝ }
+    requires { ⌜ p .vars ≤ 32 ⌝ }
+    ensures { λ r. ⌜ r ≡ unlessFault (actionFault (countColumn (now (rows .entry))) (p .vars) (p .actions) v pre post) p (afterAction p v next) ⌝ }
 {
-    let fault = faults::action_fault(rows, marks, p.vars, p.actions, v, pre, post);
+    let fault = faults::action_fault(rows, p.vars, p.actions, v, pre, post);
     if fault != 0 {
         return Step::Refused {
             number: fault,
             place: p.at,
         };
     }
-    marks[16 * (v as usize) + (post as usize)] = 1;
     Step::On(Progress {
         at: next,
+        situation: p.situation,
         vars: p.vars,
         actions: p.actions + 1,
         tasks: p.tasks,
@@ -216,23 +218,19 @@ pub fn on_action(
     post: u8,
     next: usize,
     rows: &[[u8; 3]; 32],
-    setters: &mut [u8; 512],
     acts: &mut [[u8; 6]; 256],
-    marks: &mut [u8; 512],
 ) -> Step
-    requires { ⌜ (p .vars ≤ 32) × ((k : ℕ) → k < p .vars → getD (countColumn (now rows)) k 0 ≤ 16) × (next < 65536) ⌝ }
-    ensures { λ r. ⌜ r ≡ unlessFault (actionFault (countColumn (now (rows .entry))) (now (marks .entry)) (p .vars) (p .actions) v pre post) p (afterAction p v next) ⌝ }
-    ensures { λ r. ⌜ (seen (now (setters .exit)) (now (acts .exit))
-        ≡ storedAction (actionFault (countColumn (now (rows .entry))) (now (marks .entry)) (p .vars) (p .actions) v pre post) (p .actions) v pre post next
-        (seen (now (setters .entry)) (now (acts .entry))))
-        × (now (marks .exit) ≡ stored (actionFault (countColumn (now (rows .entry))) (now (marks .entry)) (p .vars) (p .actions) v pre post) (now (marks .entry)) (16 * v + post) 1) ⌝ }
+    requires { ⌜ (p .vars ≤ 32) × (next < 65536) ⌝ }
+    ensures { λ r. ⌜ r ≡ unlessFault (actionFault (countColumn (now (rows .entry))) (p .vars) (p .actions) v pre post) p (afterAction p v next) ⌝ }
+    ensures { λ r. ⌜ ((setters : List ℕ) → seen setters (now (acts .exit))
+        ≡ storedAction (actionFault (countColumn (now (rows .entry))) (p .vars) (p .actions) v pre post) (p .actions) v pre post next
+        (seen setters (now (acts .entry)))) ⌝ }
 {
-    let step = judge_action(p, v, pre, post, next, rows, marks);
+    let step = judge_action(p, v, pre, post, next, rows);
     let Step::On(_) = step else {
         return step;
     };
     let i = p.actions;
-    setters[16 * (v as usize) + (post as usize)] = i as u8;
     acts[i] = [
         v,
         pre,
@@ -242,4 +240,78 @@ pub fn on_action(
         (next / 256 % 256) as u8,
     ];
     step
+}
+
+// Judges the situations of an action: their fault, or where the reading stands after them.
+pub fn judge_times(p: Progress, n: u8, next: usize) -> Step
+    ensures { λ r. ⌜ r ≡ unlessFault (timesFault n) p (afterTimes p next) ⌝ }
+{
+    let fault = faults::times_fault(n);
+    if fault != 0 {
+        return Step::Refused {
+            number: fault,
+            place: p.at,
+        };
+    }
+    Step::On(Progress {
+        at: next,
+        situation: p.situation,
+        vars: p.vars,
+        actions: p.actions,
+        tasks: p.tasks,
+        last: 7,
+        own: p.own,
+        above: p.above,
+        many: p.many,
+        seed: p.seed,
+    })
+}
+
+// What an action's row has more where a set of situations puts it out of force.
+fn out_by(n: u8, situation: u8) -> u8
+    requires { ⌜ situation ≤ 7 ⌝ }
+    ensures { λ r. ⌜ (r ≡ outBy n situation) × (r ≤ 64) ⌝ }
+{
+    if bits::holds(n as u64, situation) {
+        return 0;
+    }
+    64
+}
+
+pub fn on_times(p: Progress, n: u8, next: usize, acts: &mut [[u8; 6]; 256]) -> Step
+    requires { ⌜ (p .situation ≤ 7) × (p .many ≤ 32) × (1 ≤ p .actions) × (p .actions ≤ 256) ⌝ }
+    ensures { λ r. ⌜ r ≡ unlessFault (timesFault n) p (afterTimes p next) ⌝ }
+    ensures { λ r. ⌜ ((setters : List ℕ) → seen setters (now (acts .exit))
+        ≡ storedMany (timesFault n) (seen setters (now (acts .entry))) (p .actions - 1) (p .many + outBy n (p .situation))) ⌝ }
+{
+    let step = judge_times(p, n, next);
+    let Step::On(_) = step else {
+        return step;
+    };
+    enter_many(p.actions - 1, p.many + out_by(n, p.situation), acts);
+    step
+}
+
+pub fn on_present(p: Progress, n: u8, next: usize) -> Step
+    ensures { λ r. ⌜ r ≡ unlessFault (presentFault n) p (afterPresent p n next) ⌝ }
+{
+    let fault = faults::present_fault(n);
+    if fault != 0 {
+        return Step::Refused {
+            number: fault,
+            place: p.at,
+        };
+    }
+    Step::On(Progress {
+        at: next,
+        situation: n,
+        vars: p.vars,
+        actions: p.actions,
+        tasks: p.tasks,
+        last: 8,
+        own: p.own,
+        above: p.above,
+        many: p.many,
+        seed: p.seed,
+    })
 }

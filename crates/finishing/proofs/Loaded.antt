@@ -37,7 +37,7 @@ module _
     pub prepared : Prepared file n actions acts vars t
     prepared =
         record {
-          ready = record { lawful = lawful; count = holds .actions .count; action = row-tells };
+          ready = record { lawful = lawful; count = holds .actions .count; action = row-tells; force = λ i h. holds .actions .action i h .force };
           counted = holds .counts .count;
           tasks = holds .tasks;
         }

@@ -4,11 +4,12 @@ use mathlib.Core.Path.{_≡_}
 use mathlib.Core.Bool.{Bool, true, not, _&&_, and-eq-true-iff}
 use mathlib.Core.List.{List}
 use Prim.Native.Nat.{ℕ, _<_, _≤_}
+use native.Mathlib.Omega.{arith}
 use lib.Dec.{leb, eqb}
 use lib.ListN.{getD}
 use borrow.Author.Tests.{leb-true, leb-false, eqb-true, eqb-false, not-false}
-use Rattle.plain.proofs.Tests.{not-refused, not-missed}
-use Rattle.judging.specs.Faults.{inTable, variableFault, actionFault, conditionFault, taskFault}
+use Rattle.plain.proofs.Tests.{picked, not-refused, not-missed}
+use Rattle.judging.specs.Faults.{inTable, variableFault, actionFault, conditionFault, taskFault, presentFault}
 use Rattle.judging.proofs.Tests.{in-table}
 
 both : (a b : Bool) → (a && b) ≡ true → (a ≡ true) × (b ≡ true)
@@ -42,12 +43,16 @@ task-bounds counts {vars} {tasks} {v} {p} {q} e =
     (eqb-true v tasks (a .0), s .0, s .1, in-table counts vars v q (b .1) .1)
 
 pub action-bounds :
-    (counts marks : List ℕ) {vars actions v p q : ℕ} → actionFault counts marks vars actions v p q ≡ 0
+    (counts : List ℕ) {vars actions v p q : ℕ} → actionFault counts vars actions v p q ≡ 0
     → (actions < 256) × (v < vars) × (p < getD counts v 0) × (q < getD counts v 0)
 unfolding actionFault
-action-bounds counts marks {vars} {actions} {v} {p} {q} e =
+action-bounds counts {vars} {actions} {v} {p} {q} e =
     let a = not-refused (leb 256 actions) 3 _ e in
     let b = not-refused (not (inTable counts vars v p && inTable counts vars v q)) 4 _ (a .1) in
     let t = both (inTable counts vars v p) (inTable counts vars v q) (not-false _ (b .0)) in
     let s = in-table counts vars v p (t .0) in
     (leb-false 256 actions (a .0), s .0, s .1, in-table counts vars v q (t .1) .1)
+
+pub present-bounds : {n : ℕ} → presentFault n ≡ 0 → n ≤ 7
+unfolding presentFault
+present-bounds {n} e = picked (λ (m : ℕ). m ≡ 0 → n ≤ 7) (leb n 7) (λ low _. leb-true n 7 low) (λ _ m. absurd (omega arith)) e

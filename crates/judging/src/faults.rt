@@ -1,9 +1,8 @@
-// The faults 4 to 7 of a record that is allowed and whole; 0 where it has none.
+// The faults 4 to 6 of a record that is allowed and whole; 0 where it has none.
 ghost use mathlib.Core.Path.{_≡_};
-ghost use Prim.Native.Nat.{ℕ, _≤_, _<_, _+_, _*_};
-ghost use lib.ListN.{getD};
+ghost use Prim.Native.Nat.{_≤_};
 ghost use Rattle.tables.specs.Rows.{countColumn};
-ghost use Rattle.judging.specs.Faults.{inTable, setInTable, variableFault, actionFault, conditionFault, taskFault, seedFault};
+ghost use Rattle.judging.specs.Faults.{inTable, variableFault, actionFault, conditionFault, taskFault, seedFault, timesFault, presentFault};
 
 // There is such a variable, and the value is one of its values.
 fn in_range(rows: &[[u8; 3]; 32], vars: usize, v: u8, q: u8) -> bool
@@ -15,14 +14,6 @@ fn in_range(rows: &[[u8; 3]; 32], vars: usize, v: u8, q: u8) -> bool
         return false;
     }
     q < rows[i][0]
-}
-
-// An action read before sets the variable to the value.
-fn is_set(marks: &[u8; 512], v: u8, q: u8) -> bool
-    requires { ⌜ (v < 32) × (q < 16) ⌝ }
-    ensures { λ r. ⌜ r ≡ setInTable (now (marks .entry)) v q ⌝ }
-{
-    marks[16 * (v as usize) + (q as usize)] != 0
 }
 
 pub fn variable_fault(vars: usize, n: u8) -> u8
@@ -40,17 +31,9 @@ pub fn variable_fault(vars: usize, n: u8) -> u8
     0
 }
 
-pub fn action_fault(
-    rows: &[[u8; 3]; 32],
-    marks: &[u8; 512],
-    vars: usize,
-    actions: usize,
-    v: u8,
-    p: u8,
-    q: u8,
-) -> u8
-    requires { ⌜ (vars ≤ 32) × ((k : ℕ) → k < vars → getD (countColumn (now rows)) k 0 ≤ 16) ⌝ }
-    ensures { λ r. ⌜ r ≡ actionFault (countColumn (now (rows .entry))) (now (marks .entry)) vars actions v p q ⌝ }
+pub fn action_fault(rows: &[[u8; 3]; 32], vars: usize, actions: usize, v: u8, p: u8, q: u8) -> u8
+    requires { ⌜ vars ≤ 32 ⌝ }
+    ensures { λ r. ⌜ r ≡ actionFault (countColumn (now (rows .entry))) vars actions v p q ⌝ }
 {
     if 256 <= actions {
         return 4;
@@ -63,9 +46,6 @@ pub fn action_fault(
     }
     if p == q {
         return 6;
-    }
-    if is_set(marks, v, q) {
-        return 7;
     }
     0
 }
@@ -111,6 +91,29 @@ pub fn seed_fault(n: u64) -> u8
     }
     if 2147483646 < n {
         return 5;
+    }
+    0
+}
+
+// A set of all eight situations is not written.
+pub fn times_fault(n: u8) -> u8
+    ensures { λ r. ⌜ r ≡ timesFault n ⌝ }
+{
+    if n == 255 {
+        return 6;
+    }
+    0
+}
+
+// Nor is situation 0.
+pub fn present_fault(n: u8) -> u8
+    ensures { λ r. ⌜ r ≡ presentFault n ⌝ }
+{
+    if 7 < n {
+        return 5;
+    }
+    if n == 0 {
+        return 6;
     }
     0
 }

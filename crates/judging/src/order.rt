@@ -7,11 +7,13 @@ pub fn may_follow(left: bool, last: u8, kind: u8) -> bool
     ensures { λ r. ⌜ r ≡ mayFollow left last kind ⌝ }
 {
     match kind {
-        1 => last <= 1,
-        2 => 1 <= last && last <= 3,
+        1 => last <= 1 || last == 8,
+        2 => 1 <= last && (last <= 3 || last == 7),
         3 => 2 <= last && last <= 3,
-        4 => 1 <= last && (last <= 4 && left),
+        4 => left && (1 <= last && (last <= 4 || last == 7)),
         5 => last == 4 && !left,
+        7 => 2 <= last && last <= 3,
+        8 => last == 0,
         _ => last == 5,
     }
 }

@@ -1,31 +1,23 @@
 -- What a record without fault tells, by its kind.
 -- Assumes nothing.
-use mathlib.Core.Path.{_≡_, sym, _∙_}
+use mathlib.Core.Path.{_≡_}
 use mathlib.Core.Logic.{_≢_}
-use mathlib.Core.Bool.{true, false, not, _&&_, and-eq-true-iff, true≢false}
+use mathlib.Core.Bool.{true, not, _&&_, and-eq-true-iff}
 use mathlib.Core.List.{List, [], _∷_}
 use Prim.Native.Nat.{ℕ, zero, suc, _≤_, _<_}
 use native.Mathlib.Omega.{arith}
 use lib.Dec.{leb, ltb, eqb}
 use lib.ListN.{length, getD}
 use borrow.Author.Tests.{ltb-true, leb-true, leb-false, eqb-true, eqb-false, not-false}
-use Rattle.plain.proofs.Tests.{not-refused, not-missed}
-use Rattle.study.specs.Study.{Condition, Action, Study, actionAt, conditionAt}
-use Rattle.study.specs.Reading.{Record, variable, action, condition, task, seed, end, inRange, sets, above, lastAction, fault}
-use Rattle.study.proofs.Setters.{one-sets}
+use Rattle.plain.proofs.Tests.{picked, not-refused, not-missed}
+use Rattle.study.specs.Study.{Condition, Study, always, conditionAt}
+use Rattle.study.specs.Reading.{Record, variable, action, condition, task, seed, end, times, present, inRange, above, lastAction, fault}
 use Rattle.lawful.specs.Lawful.{Has}
 
 pub in-range-has : (s : Study) (v q : ℕ) → inRange s v q ≡ true → Has (s .counts) v q
 in-range-has s v q e =
     let t = and-eq-true-iff (ltb v (length (s .counts))) (ltb q (getD (s .counts) v 0)) .0 e in
     record { there = ltb-true v (length (s .counts)) (t .0); small = ltb-true q (getD (s .counts) v 0) (t .1) }
-
--- no action of the list sets the variable to the value
-abbrev pub NoneSets : List Action → ℕ → ℕ → Type 0
-NoneSets actions v q = (i : ℕ) → i < length actions → actionAt actions i .var ≡ v → actionAt actions i .post ≡ q → ⊥
-
-pub none-sets : (actions : List Action) (v q : ℕ) → sets actions v q ≡ false → NoneSets actions v q
-none-sets actions v q e i h x y = true≢false (sym (one-sets actions v q i (record { there = h; var = x; post = y })) ∙ e)
 
 -- the last condition's variable is below
 pub above-last : (cs : List Condition) (v : ℕ) → above cs v ≡ true → (k : ℕ) → suc k ≡ length cs → conditionAt cs k .var < v
@@ -38,11 +30,13 @@ above-last (c ∷ (d ∷ rest)) v e (suc k) h = above-last (d ∷ rest) v e k (o
 
 abbrev pub Faultless : Study → Record → Type 0
 Faultless s (variable n) = (length (s .counts) < 32) × (2 ≤ n) × (n ≤ 16)
-Faultless s (action v p q) = (length (s .actions) < 256) × Has (s .counts) v p × Has (s .counts) v q × (p ≢ q) × NoneSets (s .actions) v q
+Faultless s (action v p q) = (length (s .actions) < 256) × Has (s .counts) v p × Has (s .counts) v q × (p ≢ q)
 Faultless s (condition v q) = Has (s .counts) v q × (v ≢ lastAction s .var) × (above (lastAction s .conditions) v ≡ true)
 Faultless s (task v p q) = (v ≡ length (s .tasks)) × Has (s .counts) v p × Has (s .counts) v q
 Faultless s (seed n) = (1 ≤ n) × (n ≤ 2147483646)
 Faultless s end = Unit
+Faultless s (times n) = n ≢ always
+Faultless s (present n) = (n ≤ 7) × (n ≢ 0)
 
 pub faultless : (s : Study) (r : Record) → fault s r ≡ 0 → Faultless s r
 unfolding fault
@@ -54,9 +48,8 @@ faultless s (action v p q) e =
     let a = not-refused (leb 256 (length (s .actions))) 3 _ e in
     let b = not-refused (not (inRange s v p && inRange s v q)) 4 _ (a .1) in
     let c = not-refused (eqb p q) 5 _ (b .1) in
-    let d = not-refused (sets (s .actions) v q) 6 _ (c .1) in
     let r = and-eq-true-iff (inRange s v p) (inRange s v q) .0 (not-false _ (b .0)) in
-    (leb-false 256 (length (s .actions)) (a .0), in-range-has s v p (r .0), in-range-has s v q (r .1), eqb-false p q (c .0), none-sets (s .actions) v q (d .0))
+    (leb-false 256 (length (s .actions)) (a .0), in-range-has s v p (r .0), in-range-has s v q (r .1), eqb-false p q (c .0))
 faultless s (condition v q) e =
     let a = not-refused (not (inRange s v q)) 4 _ e in
     let b = not-refused (eqb v (lastAction s .var)) 5 _ (a .1) in
@@ -69,3 +62,8 @@ faultless s (seed n) e =
     let a = and-eq-true-iff (leb 1 n) (leb n 2147483646) .0 (not-missed _ 4 e) in
     (leb-true 1 n (a .0), leb-true n 2147483646 (a .1))
 faultless s end e = tt
+faultless s (times n) e = eqb-false n always (not-refused (eqb n always) 5 _ e .0)
+faultless s (present n) e =
+    picked (λ (m : ℕ). m ≡ 0 → (n ≤ 7) × (n ≢ 0)) (leb n 7)
+    (λ low m. (leb-true n 7 low, eqb-false n 0 (not-refused (eqb n 0) 5 _ m .0)))
+    (λ _ m. absurd (omega arith)) e

@@ -1,19 +1,19 @@
--- What is lawful stays so as it grows by a variable, a condition or an action.
+-- What is lawful stays so as it grows by a variable or a condition, and with other situations.
 -- Assumes nothing.
-use mathlib.Core.Path.{_≡_, refl, sym, _∙_}
+use mathlib.Core.Path.{_≡_, sym}
 use mathlib.Core.Logic.{_≢_}
 use mathlib.Core.Bool.{true}
 use mathlib.Core.List.{List, [], _∷_, _++_}
 use Prim.Native.Nat.{ℕ, suc, _<_}
 use native.Mathlib.Omega.{arith}
 use native.Mathlib.Decide.{decLt}
-use lib.ListN.{length, set, length-set, List·getD-append}
+use lib.ListN.{length, List·getD-append}
 use lib.Seq.{getD-at}
-use Rattle.plain.proofs.Lists.{length-more, each-more, set-keeps}
-use Rattle.study.specs.Study.{Condition, Action, actionAt, conditionAt, noAction, noCondition}
-use Rattle.study.specs.Reading.{above, withCondition}
-use Rattle.lawful.specs.Lawful.{Has, LawfulConditions, LawfulAction, PostUnique}
-use Rattle.lawful.proofs.Faults.{NoneSets, above-last}
+use Rattle.plain.proofs.Lists.{length-more, each-more}
+use Rattle.study.specs.Study.{Condition, Action, conditionAt, noCondition}
+use Rattle.study.specs.Reading.{above, withCondition, within}
+use Rattle.lawful.specs.Lawful.{Has, LawfulConditions, LawfulAction}
+use Rattle.lawful.proofs.Faults.{above-last}
 
 -- one variable more
 module _ (counts : List ℕ) (n : ℕ) where
@@ -63,34 +63,6 @@ with-condition {a = a} {v = v} {q = q} l h o b = record {
   conditions = conditions-more (a .conditions) (record { var = v; value = q }) (l .conditions) h o b;
 }
 
--- one action more, or one action changed that sets what it did
-module _ (actions : List Action) (unique : PostUnique actions) where
-  pub unique-more : (a : Action) → NoneSets actions (a .var) (a .post) → PostUnique (actions ++ (a ∷ []))
-  unique-more a none i j h g = each-more First actions a noAction first last i h j g
-    where
-      more : List Action
-      more = actions ++ (a ∷ [])
-
-      First : ℕ → Action → Type 0
-      First i x = (j : ℕ) → j < length more → x .var ≡ actionAt more j .var → x .post ≡ actionAt more j .post → i ≡ j
-
-      first : (i : ℕ) → i < length actions → First i (actionAt actions i)
-      first i h =
-          each-more (λ j y. actionAt actions i .var ≡ y .var → actionAt actions i .post ≡ y .post → i ≡ j) actions a noAction
-          (λ j g. unique i j h g) (λ v p. absurd (none i h v p))
-
-      last : First (length actions) a
-      last =
-          each-more (λ j y. a .var ≡ y .var → a .post ≡ y .post → length actions ≡ j) actions a noAction
-          (λ j g v p. absurd (none j g (sym v) (sym p))) (λ v p. refl)
-
-  pub unique-set : (k : ℕ) (a : Action) → a .var ≡ actionAt actions k .var → a .post ≡ actionAt actions k .post → PostUnique (set actions k a)
-  unique-set k a v p i j h g x y =
-      unique i j (omega (arith, length-set actions k a)) (omega (arith, length-set actions k a))
-      (sym (var i) ∙ x ∙ var j) (sym (post i) ∙ y ∙ post j)
-    where
-      var : (i : ℕ) → actionAt (set actions k a) i .var ≡ actionAt actions i .var
-      var = set-keeps (λ x. x .var) actions k a noAction v
-
-      post : (i : ℕ) → actionAt (set actions k a) i .post ≡ actionAt actions i .post
-      post = set-keeps (λ x. x .post) actions k a noAction p
+-- other situations
+pub with-situations : {counts : List ℕ} {a : Action} (n : ℕ) → LawfulAction counts a → LawfulAction counts (within a n)
+with-situations n l = record { has-pre = l .has-pre; has-post = l .has-post; changes = l .changes; conditions = l .conditions }

@@ -1,13 +1,14 @@
--- A file that loads has exactly as many bytes as the records of its study, and so 25,030 at most; a longer file is refused.
+-- A file that loads has exactly as many bytes as the records of its study, and so 25,544 at most; a longer file is refused. While it is read, each action's record stands as far on as what was read before it.
 -- Assumes nothing.
-use mathlib.Core.Path.{_≡_, refl, subst}
+use mathlib.Core.Path.{_≡_, refl, sym, ap, _∙_, subst}
+use mathlib.Core.Logic.{_≢_}
+use mathlib.Core.Option.{Option, none, some}
 use mathlib.Core.List.{List, [], _∷_, _++_}
 use Prim.Native.Nat.{ℕ, zero, suc, _+_, _-_, _*_, _≤_, _<_}
 use native.Mathlib.Omega.{arith}
-use native.Mathlib.Decide.{decLt}
-use lib.Dec.{leb, ltb, eqb}
+use lib.Dec.{ltb, eqb}
 use lib.ListN.{length, set}
-use borrow.Author.Tests.{ltb-true, ltb-false, le-leb, lt-leb, eqb-true, eqb-false}
+use borrow.Author.Tests.{ltb-false, eqb-true, eqb-false, ne-eqb}
 use Rattle.plain.specs.Choose.{pick}
 use Rattle.plain.proofs.Tests.{picked}
 use Rattle.plain.proofs.Lists.{length-more}
@@ -15,29 +16,33 @@ use Rattle.records.specs.Records.{bodyLength, bodyLengths, recordAt}
 use Rattle.records.specs.declared.Found.{Found}
 use Rattle.records.specs.declared.Found.the-variants.{There, Unknown, Cut, Ended}
 use Rattle.records.proofs.Laws.{Lies, there-lies}
-use Rattle.study.specs.Study.{Action, Study, actionAt}
-use Rattle.study.specs.Reading.{Said, says, refused, Record, variable, action, condition, task, seed, end, decoded, recordFrom, Draft, tasksLeft, allowed, fault}
-use Rattle.study.specs.Reading.{Verdict, lastAction, withCondition, with, taken, unless, judged, verdictAt, reading}
-use Rattle.study.proofs.Readings.{VerdictHas, verdict-has-both, reading-has}
+use Rattle.study.specs.Study.{Action, Study, always, actionAt}
+use Rattle.study.specs.Reading.{Said, says, refused, Record, variable, action, condition, task, seed, end, times, present, decoded, recordFrom, Draft, blank, tasksLeft, allowed, fault}
+use Rattle.study.specs.Reading.{Verdict, settled, onward, firstRepeat, lastAction, withCondition, within, withActions, with, placed, drafted, ended, taken, unless, judged, verdictAt, reading}
+use Rattle.study.proofs.Readings.{VerdictHas, reading-has}
 use Rattle.lawful.specs.Lawful.{Lawful}
-use Rattle.lawful.specs.Lengths.{bytesOf, bytesOfActions, fileLength, longestFile}
-use Rattle.lawful.proofs.Order.{Follows, may-follow}
-use Rattle.lawful.proofs.Sound.{Sound, blank-sound, extended}
-use Rattle.lawful.proofs.Loads.{LawfulIfSaid, verdict-sound, loads-lawful}
+use Rattle.lawful.specs.Lengths.{bytesOf, bytesOfTimes, bytesOfPresent, bytesOfActions, placesFrom, fileLength, longestFile}
+use Rattle.lawful.proofs.Order.{stage, stage-same, Follows, may-follow}
+use Rattle.lawful.proofs.Faults.{Faultless, faultless}
+use Rattle.lawful.proofs.Sound.{Sound, blank-sound}
+use Rattle.lawful.proofs.Loads.{SoundVerdict, verdict-sound, loads-lawful}
 use Rattle.lawful.proofs.Conditions.{conditions-few}
 
 -- ---- a record takes its kind and its body
 
-body-of-others : (kind : ℕ) → (kind ≡ 1 → ⊥) → (kind ≡ 2 → ⊥) → (kind ≡ 3 → ⊥) → (kind ≡ 4 → ⊥) → (kind ≡ 5 → ⊥) → bodyLength kind ≡ 0
+body-of-others :
+    (kind : ℕ) → kind ≢ 1 → kind ≢ 2 → kind ≢ 3 → kind ≢ 4 → kind ≢ 5 → kind ≢ 7 → kind ≢ 8 → bodyLength kind ≡ 0
 unfolding bodyLength bodyLengths
-body-of-others zero a b c d e = refl
-body-of-others (suc zero) a b c d e = absurd (a refl)
-body-of-others (suc (suc zero)) a b c d e = absurd (b refl)
-body-of-others (suc (suc (suc zero))) a b c d e = absurd (c refl)
-body-of-others (suc (suc (suc (suc zero)))) a b c d e = absurd (d refl)
-body-of-others (suc (suc (suc (suc (suc zero))))) a b c d e = absurd (e refl)
-body-of-others (suc (suc (suc (suc (suc (suc zero)))))) a b c d e = refl
-body-of-others (suc (suc (suc (suc (suc (suc (suc kind))))))) a b c d e = refl
+body-of-others zero a b c d e f g = refl
+body-of-others (suc zero) a b c d e f g = absurd (a refl)
+body-of-others (suc (suc zero)) a b c d e f g = absurd (b refl)
+body-of-others (suc (suc (suc zero))) a b c d e f g = absurd (c refl)
+body-of-others (suc (suc (suc (suc zero)))) a b c d e f g = absurd (d refl)
+body-of-others (suc (suc (suc (suc (suc zero))))) a b c d e f g = absurd (e refl)
+body-of-others (suc (suc (suc (suc (suc (suc zero)))))) a b c d e f g = refl
+body-of-others (suc (suc (suc (suc (suc (suc (suc zero))))))) a b c d e f g = absurd (f refl)
+body-of-others (suc (suc (suc (suc (suc (suc (suc (suc zero)))))))) a b c d e f g = absurd (g refl)
+body-of-others (suc (suc (suc (suc (suc (suc (suc (suc (suc kind))))))))) a b c d e f g = refl
 
 record-bytes : (kind a b c d : ℕ) → 1 + bodyLength kind ≡ bytesOf (decoded kind a b c d)
 unfolding decoded bodyLength bodyLengths
@@ -47,8 +52,10 @@ record-bytes kind a b c d =
     λ n2. picked P (eqb kind 3) (λ k. rw (eqb-true kind 3 k))
     λ n3. picked P (eqb kind 4) (λ k. rw (eqb-true kind 4 k))
     λ n4. picked P (eqb kind 5) (λ k. rw (eqb-true kind 5 k))
-    λ n5.
-    rw (body-of-others kind (eqb-false kind 1 n1) (eqb-false kind 2 n2) (eqb-false kind 3 n3) (eqb-false kind 4 n4) (eqb-false kind 5 n5))
+    λ n5. picked P (eqb kind 7) (λ k. rw (eqb-true kind 7 k))
+    λ n7. picked P (eqb kind 8) (λ k. rw (eqb-true kind 8 k))
+    λ n8.
+    rw (body-of-others kind (eqb-false kind 1 n1) (eqb-false kind 2 n2) (eqb-false kind 3 n3) (eqb-false kind 4 n4) (eqb-false kind 5 n5) (eqb-false kind 7 n7) (eqb-false kind 8 n8))
   where
     P : Record → Type 0
     P r = 1 + bodyLength kind ≡ bytesOf r
@@ -57,84 +64,166 @@ record-bytes kind a b c d =
 
 -- the seed has been read
 abbrev seedBytes : ℕ → ℕ
-seedBytes last = pick (leb 5 last) 5 0
+seedBytes last = pick (eqb last 5) 5 0
 
-abbrev soFar : Draft → ℕ
-soFar d = 2 * length (d .study .counts) + bytesOfActions (d .study .actions) + 4 * length (d .study .tasks) + seedBytes (d .last)
+-- the situation and the variables
+abbrev pub bytesBeforeActions : Study → ℕ
+bytesBeforeActions s = bytesOfPresent (s .situation) + 2 * length (s .counts)
 
-no-seed : (last : ℕ) → last < 5 → seedBytes last ≡ 0
-no-seed last h = rw (lt-leb 5 last h)
+abbrev pub bytesSoFar : Draft → ℕ
+bytesSoFar d = bytesBeforeActions (d .study) + bytesOfActions (d .study .actions) + 4 * length (d .study .tasks) + seedBytes (d .last)
 
-with-seed : (last : ℕ) → 5 ≤ last → seedBytes last ≡ 5
-with-seed last h = rw (le-leb 5 last h)
+-- a place between two records is as far on as what was read, and so was that of each action
+pub record Placed (at : ℕ) (d : Draft) : Type 0 where
+  pub so-far : at ≡ bytesSoFar d
+  pub places : d .places ≡ placesFrom (bytesBeforeActions (d .study)) (d .study .actions)
 
-bytes-more : (actions : List Action) (a : Action) → bytesOfActions (actions ++ (a ∷ [])) ≡ bytesOfActions actions + (4 + 3 * length (a .conditions))
+no-seed : (last : ℕ) → stage last ≤ 4 → seedBytes last ≡ 0
+no-seed last h = rw (ne-eqb last 5 (λ e. omega (arith, ap stage e)))
+
+with-seed : (last : ℕ) → last ≡ 5 → seedBytes last ≡ 5
+with-seed last e = rw e
+
+times-written : (n : ℕ) → n ≢ always → bytesOfTimes n ≡ 2
+times-written n differ = rw (ne-eqb n always differ)
+
+present-written : (n : ℕ) → n ≢ 0 → bytesOfPresent n ≡ 2
+present-written n differ = rw (ne-eqb n 0 differ)
+
+bytes-more :
+    (actions : List Action) (a : Action)
+    → bytesOfActions (actions ++ (a ∷ [])) ≡ bytesOfActions actions + (4 + 3 * length (a .conditions) + bytesOfTimes (a .situations))
 unfolding bytesOfActions
 bytes-more [] a = omega arith
 bytes-more (b ∷ rest) a = omega (arith, bytes-more rest a)
 
--- an action with one condition more
+places-more :
+    (actions : List Action) (a : Action) (at place : ℕ) → place ≡ at + bytesOfActions actions
+    → placesFrom at (actions ++ (a ∷ [])) ≡ placesFrom at actions ++ (place ∷ [])
+unfolding bytesOfActions placesFrom
+places-more [] a at place e = let f : at ≡ place = omega arith in rw f
+places-more (b ∷ rest) a at place e = ap (λ (l : List ℕ). at ∷ l) (places-more rest a _ place (omega arith))
+
+-- one action changed, which takes so many bytes more
 bytes-set :
-    (actions : List Action) (k : ℕ) (a : Action) → k < length actions
-    → length (a .conditions) ≡ suc (length (actionAt actions k .conditions))
-    → bytesOfActions (set actions k a) ≡ bytesOfActions actions + 3
+    (actions : List Action) (k n : ℕ) (a : Action) → k < length actions
+    → 3 * length (a .conditions) + bytesOfTimes (a .situations)
+    ≡ 3 * length (actionAt actions k .conditions) + bytesOfTimes (actionAt actions k .situations) + n
+    → bytesOfActions (set actions k a) ≡ bytesOfActions actions + n
 unfolding bytesOfActions
-bytes-set [] k a h e = absurd (omega arith)
-bytes-set (b ∷ rest) zero a h e = omega arith
-bytes-set (b ∷ rest) (suc k) a h e = omega (arith, bytes-set rest k a (omega arith) e)
+bytes-set [] k n a h e = absurd (omega arith)
+bytes-set (b ∷ rest) zero n a h e = omega arith
+bytes-set (b ∷ rest) (suc k) n a h e = omega (arith, bytes-set rest k n a (omega arith) e)
 
-module _ {d : Draft} (sound : Sound d) (kind : ℕ) where
+-- the last one changed
+places-set : (actions : List Action) (k at : ℕ) (a : Action) → suc k ≡ length actions → placesFrom at (set actions k a) ≡ placesFrom at actions
+unfolding placesFrom
+places-set [] k at a e = absurd (omega arith)
+places-set (b ∷ []) zero at a e = refl
+places-set (b ∷ (c ∷ rest)) zero at a e = absurd (omega arith)
+places-set (b ∷ rest) (suc k) at a e = ap (λ (l : List ℕ). at ∷ l) (places-set rest k _ a (omega arith))
+
+module _ {d : Draft} (sound : Sound d) {at : ℕ} (spaced : Placed at d) (kind : ℕ) where
   -- one record more, that is not the end
-  abbrev Lengthens : Record → Type 0
-  Lengthens r = Follows (tasksLeft (d .study)) (d .last) kind r → soFar (extended d kind r) ≡ soFar d + bytesOf r
+  abbrev Extends : Record → Type 0
+  Extends r = Follows (tasksLeft (d .study)) (d .last) kind r → Faultless (d .study) r → Placed (at + bytesOf r) (drafted d at kind r)
 
-  variable-lengthens : (n : ℕ) → Lengthens (variable n)
-  unfolding with
-  variable-lengthens n (is, early) =
-      omega (arith, length-more (d .study .counts) n, no-seed (d .last) (omega arith), no-seed kind (omega arith))
+  no-places : d .study .actions ≡ [] → d .places ≡ []
+  unfolding placesFrom
+  no-places e = spaced .places ∙ rw e
 
-  action-lengthens : (v p q : ℕ) → Lengthens (action v p q)
-  unfolding with
-  action-lengthens v p q (is, low, high) =
-      omega (
-        arith,
-        bytes-more (d .study .actions) (record { var = v; pre = p; post = q; conditions = [] }),
-        no-seed (d .last) (omega arith),
-        no-seed kind (omega arith),
-      )
+  variable-placed : (n : ℕ) → Extends (variable n)
+  unfolding with placed placesFrom
+  variable-placed n (is, early) ok =
+      let no-actions = sound .no-actions early in
+      record {
+        so-far =
+            omega (arith, spaced .so-far, length-more (d .study .counts) n, no-seed (d .last) (omega arith), no-seed kind (omega (arith, ap stage is)));
+        places = rw no-actions (no-places no-actions);
+      }
 
-  condition-lengthens : (v q : ℕ) → Lengthens (condition v q)
-  unfolding with
-  condition-lengthens v q (is, low, high) =
-      omega (
-        arith,
-        bytes-set actions (length actions - 1) (withCondition (lastAction (d .study)) v q) (omega (arith, sound .some-action low high))
-            (length-more (lastAction (d .study) .conditions) (record { var = v; value = q })),
-        no-seed (d .last) (omega arith),
-        no-seed kind (omega arith),
-      )
+  action-placed : (v p q : ℕ) → Extends (action v p q)
+  unfolding with placed
+  action-placed v p q (is, low, high) ok = record {
+    so-far = omega (arith, here, bytes-more old new, none-yet, no-seed kind (omega (arith, ap stage is)));
+    places = ap (λ (l : List ℕ). l ++ (at ∷ [])) (spaced .places) ∙ sym (places-more old new (bytesBeforeActions (d .study)) at here);
+  }
     where
-      actions : List Action
-      actions = d .study .actions
+      old : List Action
+      old = d .study .actions
 
-  task-lengthens : (v p q : ℕ) → Lengthens (task v p q)
-  unfolding with
-  task-lengthens v p q (is, low, left) =
-      omega (
-        arith,
-        length-more (d .study .tasks) (record { start = p; goal = q }),
-        no-seed (d .last) (before-seed (decLt (d .last) 5)),
-        no-seed kind (omega arith),
-      )
+      new : Action
+      new = record { var = v; pre = p; post = q; conditions = []; situations = always }
+
+      none-yet : length (d .study .tasks) ≡ 0
+      none-yet = ap length (sound .no-tasks high)
+
+      here : at ≡ bytesBeforeActions (d .study) + bytesOfActions old
+      here = omega (arith, spaced .so-far, none-yet, no-seed (d .last) (omega arith))
+
+  -- the last action changed, which takes so many bytes more
+  newest-placed :
+      2 ≤ d .last → d .last ≤ 3 → stage kind ≤ 4 → (n : ℕ) (a : Action)
+      → 3 * length (a .conditions) + bytesOfTimes (a .situations)
+      ≡ 3 * length (lastAction (d .study) .conditions) + bytesOfTimes (lastAction (d .study) .situations) + n
+      → Placed (at + n) (record { study = withActions (d .study) (set (d .study .actions) (length (d .study .actions) - 1) a); last = kind; places = d .places })
+  newest-placed low high no-seed-now n a e =
+      let some = sound .some-action low high in
+      record {
+        so-far =
+            omega (arith, spaced .so-far, bytes-set old newest n a (omega arith) e, no-seed (d .last) (omega (arith, stage-same (d .last) (omega arith))), no-seed kind no-seed-now);
+        places = spaced .places ∙ sym (places-set old newest (bytesBeforeActions (d .study)) a (omega arith));
+      }
     where
-      before-seed : Dec (d .last < 5) → d .last < 5
-      before-seed (yes h) = h
-      before-seed (no h) =
-          absurd (omega (arith, sound .complete (omega arith) .a-task-each, ltb-true (length (d .study .tasks)) (length (d .study .counts)) left))
+      old : List Action
+      old = d .study .actions
 
-  seed-lengthens : (n : ℕ) → Lengthens (seed n)
-  unfolding with
-  seed-lengthens n (is, last, left) = omega (arith, no-seed (d .last) (omega arith), with-seed kind (omega arith))
+      newest : ℕ
+      newest = length old - 1
+
+  condition-placed : (v q : ℕ) → Extends (condition v q)
+  unfolding with placed
+  condition-placed v q (is, low, high) ok =
+      newest-placed low high (omega (arith, ap stage is)) 3 (withCondition (lastAction (d .study)) v q)
+      (omega (arith, length-more (lastAction (d .study) .conditions) (record { var = v; value = q })))
+
+  times-placed : (n : ℕ) → Extends (times n)
+  unfolding with placed
+  times-placed n (is, low, high) differ =
+      newest-placed low high (omega (arith, ap stage is)) 2 (within (lastAction (d .study)) n)
+      (omega (arith, times-written n differ, ap bytesOfTimes (sound .still-always low high)))
+
+  task-placed : (v p q : ℕ) → Extends (task v p q)
+  unfolding with placed
+  task-placed v p q (is, low, high, left) ok = record {
+    so-far =
+        omega (arith, spaced .so-far, length-more (d .study .tasks) (record { start = p; goal = q }), no-seed (d .last) high, no-seed kind (omega (arith, ap stage is)));
+    places = spaced .places;
+  }
+
+  seed-placed : (n : ℕ) → Extends (seed n)
+  unfolding with placed
+  seed-placed n (is, last, left) ok = record {
+    so-far = omega (arith, spaced .so-far, no-seed (d .last) (omega (arith, ap stage last)), with-seed kind is);
+    places = spaced .places;
+  }
+
+  present-placed : (n : ℕ) → Extends (present n)
+  unfolding with placed placesFrom
+  present-placed n (is, first) (few, differ) =
+      let no-actions = sound .no-actions (omega (arith, ap stage first)) in
+      record {
+        so-far =
+            omega (
+              arith,
+              spaced .so-far,
+              ap (λ (s : Study). bytesOfPresent (s .situation)) (sound .nothing-yet first),
+              present-written n differ,
+              no-seed (d .last) (omega (arith, ap stage first)),
+              no-seed kind (omega (arith, ap stage is)),
+            );
+        places = rw no-actions (no-places no-actions);
+      }
 
 -- ---- the place where each record ends, and so the file
 
@@ -142,45 +231,51 @@ abbrev pub LengthIfSaid : List ℕ → Said → Type 0
 LengthIfSaid file (says s) = length file ≡ fileLength s
 LengthIfSaid file (refused number place) = Unit {0}
 
--- a place between two records is as far on as what was read
-abbrev Placed : ℕ → Draft → Type 0
-Placed at d = at ≡ soFar d
-
-module _ (file : List ℕ) {d : Draft} (sound : Sound d) (at : ℕ) (placed : Placed at d) where
+module _ (file : List ℕ) {d : Draft} (sound : Sound d) (at : ℕ) (spaced : Placed at d) where
   abbrev PlacedVerdict : Verdict → Type 0
   PlacedVerdict = VerdictHas (LengthIfSaid file) Placed
 
-  unless-placed : (n : ℕ) (v : Verdict) → PlacedVerdict v → PlacedVerdict (unless n at v)
+  unless-placed : (n : ℕ) (v : Verdict) → (n ≡ 0 → PlacedVerdict v) → PlacedVerdict (unless n at v)
   unfolding unless
-  unless-placed zero v h = h
+  unless-placed zero v h = h refl
   unless-placed (suc n) v h = tt
 
-  taken-placed :
-      (kind next : ℕ) (r : Record) → next ≡ at + bytesOf r → next ≤ length file → Follows (tasksLeft (d .study)) (d .last) kind r
-      → PlacedVerdict (taken file d kind next r)
-  unfolding taken fileLength
-  taken-placed kind next (variable n) e whole f = omega (arith, variable-lengthens sound kind n f)
-  taken-placed kind next (action v p q) e whole f = omega (arith, action-lengthens sound kind v p q f)
-  taken-placed kind next (condition v q) e whole f = omega (arith, condition-lengthens sound kind v q f)
-  taken-placed kind next (task v p q) e whole f = omega (arith, task-lengthens sound kind v p q f)
-  taken-placed kind next (seed n) e whole f = omega (arith, seed-lengthens sound kind n f)
-  taken-placed kind next end e whole last =
+  ended-length : (next : ℕ) → next ≡ at + 1 → next ≤ length file → d .last ≡ 5 → (repeat : Option ℕ) → LengthIfSaid file (ended file next d repeat)
+  unfolding fileLength
+  ended-length next e whole last (some i) = tt
+  ended-length next e whole last none =
       picked (LengthIfSaid file) (ltb next (length file)) (λ _. tt)
-      (λ nothing. omega (arith, ltb-false next (length file) nothing, with-seed (d .last) (omega arith)))
+      (λ nothing. omega (arith, spaced .so-far, ltb-false next (length file) nothing, with-seed (d .last) last))
+
+  taken-placed :
+      (kind next : ℕ) (r : Record) → at + bytesOf r ≡ next → next ≤ length file
+      → Follows (tasksLeft (d .study)) (d .last) kind r → Faultless (d .study) r → PlacedVerdict (taken file at d kind next r)
+  unfolding taken
+  taken-placed kind next (variable n) e whole f ok = rw e at (variable-placed sound spaced kind n f ok)
+  taken-placed kind next (action v p q) e whole f ok = rw e at (action-placed sound spaced kind v p q f ok)
+  taken-placed kind next (condition v q) e whole f ok = rw e at (condition-placed sound spaced kind v q f ok)
+  taken-placed kind next (task v p q) e whole f ok = rw e at (task-placed sound spaced kind v p q f ok)
+  taken-placed kind next (seed n) e whole f ok = rw e at (seed-placed sound spaced kind n f ok)
+  taken-placed kind next end e whole last ok = ended-length next (sym e) whole last (firstRepeat (d .study))
+  taken-placed kind next (times n) e whole f ok = rw e at (times-placed sound spaced kind n f ok)
+  taken-placed kind next (present n) e whole f ok = rw e at (present-placed sound spaced kind n f ok)
 
   judged-placed : (f : Found) → recordAt file at ≡ f → PlacedVerdict (judged file at d f)
   unfolding judged
   judged-placed (There kind start next) there =
       picked PlacedVerdict (allowed d kind)
-      (λ a. unless-placed (fault (d .study) (recordFrom file start kind)) _
-      (taken-placed kind next (recordFrom file start kind)
-      (omega (arith, lies .goes-on, bytes)) (lies .whole) (may-follow (tasksLeft (d .study)) (d .last) kind _ _ _ _ a)))
+      (λ a. unless-placed (fault (d .study) r) _
+      (λ e. taken-placed kind next r
+      (omega (arith, lies .goes-on, bytes)) (lies .whole) (may-follow (tasksLeft (d .study)) (d .last) kind _ _ _ _ a) (faultless (d .study) r e)))
       (λ _. tt)
     where
+      r : Record
+      r = recordFrom file start kind
+
       lies : Lies file at kind start next
       lies = there-lies file at there
 
-      bytes : 1 + bodyLength kind ≡ bytesOf (recordFrom file start kind)
+      bytes : 1 + bodyLength kind ≡ bytesOf r
       bytes = record-bytes kind _ _ _ _
   judged-placed (Unknown place) there = tt
   judged-placed (Cut kind place) there = tt
@@ -192,28 +287,59 @@ module _ (file : List ℕ) {d : Draft} (sound : Sound d) (at : ℕ) (placed : Pl
 
 -- ---- the theorems
 
-reading-length : (file : List ℕ) → LawfulIfSaid (reading file) × LengthIfSaid file (reading file)
-unfolding bytesOfActions
-reading-length file =
-    reading-has (λ s. LawfulIfSaid s × LengthIfSaid file s) (λ at d. Sound d × Placed at d) file (tt, tt)
-    (λ at d h.
-    verdict-has-both LawfulIfSaid (LengthIfSaid file) (λ at. Sound) Placed (verdictAt file at d)
-    (verdict-sound file (h .0) at) (verdict-placed file (h .0) at (h .1)))
-    (blank-sound, refl)
+-- what is so of a draft and of the place where it is met: at the start, and behind each record that is read
+pub record Met (at : ℕ) (d : Draft) : Type 0 where
+  pub sound : Sound d
+  pub placed : Placed at d
+
+pub blank-met : Met 0 blank
+unfolding bytesOfActions placesFrom
+blank-met = record { sound = blank-sound; placed = record { so-far = refl; places = refl } }
+
+abbrev MetVerdict : List ℕ → Verdict → Type 0
+MetVerdict file = VerdictHas (LengthIfSaid file) Met
+
+verdict-met : (file : List ℕ) (at : ℕ) (d : Draft) → Met at d → MetVerdict file (verdictAt file at d)
+verdict-met file at d met = both (verdictAt file at d) (verdict-sound file (met .sound) at) (verdict-placed file (met .sound) at (met .placed))
+  where
+    both : (v : Verdict) → SoundVerdict v → VerdictHas (LengthIfSaid file) Placed v → MetVerdict file v
+    both (settled s) p q = q
+    both (onward next d′) p q = record { sound = p; placed = q }
+
+pub met-onward : (file : List ℕ) {at next : ℕ} {d d′ : Draft} → Met at d → verdictAt file at d ≡ onward next d′ → Met next d′
+met-onward file {at} {d = d} met e = subst (MetVerdict file) e (verdict-met file at d met)
+
+reading-length : (file : List ℕ) → LengthIfSaid file (reading file)
+reading-length file = reading-has (LengthIfSaid file) Met file tt (verdict-met file) blank-met
 
 -- a file that loads has as many bytes as its study's records
 pub loads-length : (file : List ℕ) (s : Study) → reading file ≡ says s → length file ≡ fileLength s
-loads-length file s e = subst (LengthIfSaid file) e (reading-length file .1)
+loads-length file s e = subst (LengthIfSaid file) e (reading-length file)
 
-few-bytes : (actions : List Action) → ((i : ℕ) → i < length actions → length (actionAt actions i .conditions) ≤ 31) → bytesOfActions actions ≤ (4 + 3 * 31) * length actions
+few-bytes-of-times : (n : ℕ) → bytesOfTimes n ≤ 2
+few-bytes-of-times n = picked (λ (m : ℕ). m ≤ 2) (eqb n always) (λ _. omega arith) (λ _. omega arith)
+
+few-bytes-of-present : (n : ℕ) → bytesOfPresent n ≤ 2
+few-bytes-of-present n = picked (λ (m : ℕ). m ≤ 2) (eqb n 0) (λ _. omega arith) (λ _. omega arith)
+
+few-bytes :
+    (actions : List Action) → ((i : ℕ) → i < length actions → length (actionAt actions i .conditions) ≤ 31)
+    → bytesOfActions actions ≤ (4 + 3 * 31 + 2) * length actions
 unfolding bytesOfActions
 few-bytes [] few = omega arith
-few-bytes (a ∷ rest) few = omega (arith, few 0 (omega arith), few-bytes rest (λ i h. few (suc i) (omega arith)))
+few-bytes (a ∷ rest) few = omega (arith, few 0 (omega arith), few-bytes-of-times (a .situations), few-bytes rest (λ i h. few (suc i) (omega arith)))
 
 lawful-length : {s : Study} → Lawful s → fileLength s ≤ longestFile
 unfolding fileLength
 lawful-length {s} lawful =
-    omega (arith, lawful .few-variables, lawful .few-actions, lawful .a-task-each, few-bytes (s .actions) (conditions-few lawful))
+    omega (
+      arith,
+      lawful .few-variables,
+      lawful .few-actions,
+      lawful .a-task-each,
+      few-bytes-of-present (s .situation),
+      few-bytes (s .actions) (conditions-few lawful),
+    )
 
 -- .. and so it is no longer than the longest
 pub loads-short : (file : List ℕ) (s : Study) → reading file ≡ says s → length file ≤ longestFile
@@ -227,5 +353,5 @@ longer-is-refused file long = from (reading file) refl
     from (says s) e = absurd (omega (arith, loads-short file s e))
     from (refused number place) e = (number, (place, e))
 
-pub longest-is-25030 : longestFile ≡ 25030
-longest-is-25030 = refl
+pub longest-is-25544 : longestFile ≡ 25544
+longest-is-25544 = refl

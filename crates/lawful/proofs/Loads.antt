@@ -1,6 +1,7 @@
 -- A file that loads says a lawful study.
 -- Assumes nothing.
 use mathlib.Core.Path.{_≡_, refl, subst}
+use mathlib.Core.Option.{Option, none, some}
 use mathlib.Core.List.{List}
 use Prim.Native.Nat.{ℕ, zero, suc}
 use lib.Dec.{ltb}
@@ -10,13 +11,13 @@ use Rattle.records.specs.Records.{recordAt}
 use Rattle.records.specs.declared.Found.{Found}
 use Rattle.records.specs.declared.Found.the-variants.{There, Unknown, Cut, Ended}
 use Rattle.study.specs.Study.{Study}
-use Rattle.study.specs.Reading.{Said, says, refused, Record, variable, action, condition, task, seed, end, recordFrom, Draft, tasksLeft, allowed, fault}
-use Rattle.study.specs.Reading.{Verdict, taken, unless, judged, verdictAt, reading}
+use Rattle.study.specs.Reading.{Said, says, refused, Record, variable, action, condition, task, seed, end, times, present, recordFrom, Draft, tasksLeft, allowed, fault}
+use Rattle.study.specs.Reading.{Verdict, firstRepeat, ended, taken, unless, judged, verdictAt, reading}
 use Rattle.study.proofs.Readings.{VerdictHas, reading-has}
 use Rattle.lawful.specs.Lawful.{Lawful}
 use Rattle.lawful.proofs.Order.{Follows, may-follow}
 use Rattle.lawful.proofs.Faults.{Faultless, faultless}
-use Rattle.lawful.proofs.Sound.{Sound, blank-sound, variable-sound, action-sound, condition-sound, task-sound, seed-sound, end-lawful}
+use Rattle.lawful.proofs.Sound.{Sound, blank-sound, variable-sound, action-sound, condition-sound, task-sound, seed-sound, times-sound, present-sound, end-lawful}
 
 -- a study that is said is lawful
 abbrev pub LawfulIfSaid : Said → Type 0
@@ -33,23 +34,29 @@ unless-sound zero at v f = f refl
 unless-sound (suc n) at v f = tt
 
 module _ (file : List ℕ) {d : Draft} (sound : Sound d) where
+  ended-sound : (next : ℕ) → d .last ≡ 5 → (repeat : Option ℕ) → firstRepeat (d .study) ≡ repeat → LawfulIfSaid (ended file next d repeat)
+  ended-sound next last (some i) e = tt
+  ended-sound next last none e = picked LawfulIfSaid (ltb next (length file)) (λ _. tt) (λ _. end-lawful sound last e)
+
   taken-sound :
-      (kind next : ℕ) (r : Record)
-      → Follows (tasksLeft (d .study)) (d .last) kind r → Faultless (d .study) r → SoundVerdict (taken file d kind next r)
+      (at kind next : ℕ) (r : Record)
+      → Follows (tasksLeft (d .study)) (d .last) kind r → Faultless (d .study) r → SoundVerdict (taken file at d kind next r)
   unfolding taken
-  taken-sound kind next (variable n) = variable-sound sound kind n
-  taken-sound kind next (action v p q) = action-sound sound kind v p q
-  taken-sound kind next (condition v q) = condition-sound sound kind v q
-  taken-sound kind next (task v p q) = task-sound sound kind v p q
-  taken-sound kind next (seed n) = seed-sound sound kind n
-  taken-sound kind next end = λ last _. picked LawfulIfSaid (ltb next (length file)) (λ _. tt) (λ _. end-lawful sound last)
+  taken-sound at kind next (variable n) = variable-sound sound at kind n
+  taken-sound at kind next (action v p q) = action-sound sound at kind v p q
+  taken-sound at kind next (condition v q) = condition-sound sound at kind v q
+  taken-sound at kind next (task v p q) = task-sound sound at kind v p q
+  taken-sound at kind next (seed n) = seed-sound sound at kind n
+  taken-sound at kind next end = λ last _. ended-sound next last (firstRepeat (d .study)) refl
+  taken-sound at kind next (times n) = times-sound sound at kind n
+  taken-sound at kind next (present n) = present-sound sound at kind n
 
   judged-sound : (at : ℕ) (f : Found) → SoundVerdict (judged file at d f)
   unfolding judged
   judged-sound at (There kind start next) =
       picked SoundVerdict (allowed d kind)
       (λ a. unless-sound (fault (d .study) r) at _
-      (λ e. taken-sound kind next r (may-follow (tasksLeft (d .study)) (d .last) kind _ _ _ _ a) (faultless (d .study) r e)))
+      (λ e. taken-sound at kind next r (may-follow (tasksLeft (d .study)) (d .last) kind _ _ _ _ a) (faultless (d .study) r e)))
       (λ _. tt)
     where
       r : Record

@@ -1,11 +1,12 @@
--- Lawful studies: the limits of document 01 and the SAS demands on actions (values in range, pre differs from post, post-unique, conditions rising and on other variables).
+-- Lawful studies: the limits of document 01 and the SAS demands on actions (values in range, pre differs from post, post-unique within the situation, conditions rising and on other variables).
 -- Assumes nothing.
 use Prim.Native.Nat.{ℕ, suc, _≤_, _<_}
 use mathlib.Core.Path.{_≡_}
 use mathlib.Core.Logic.{_≢_}
+use mathlib.Core.Bool.{true}
 use mathlib.Core.List.{List}
 use lib.ListN.{length, getD}
-use Rattle.study.specs.Study.{Condition, Action, Study, actionAt, taskAt, conditionAt}
+use Rattle.study.specs.Study.{Condition, Action, Study, inForce, actionAt, taskAt, conditionAt}
 
 -- the variable is there, and the value is one of its values
 pub record Has (counts : List ℕ) (v q : ℕ) : Type 0 where
@@ -23,22 +24,24 @@ pub record LawfulAction (counts : List ℕ) (a : Action) : Type 0 where
   pub changes : a .pre ≢ a .post
   pub conditions : LawfulConditions counts (a .var) (a .conditions)
 
--- no two actions set the same variable to the same value
-abbrev pub PostUnique : List Action → Type 0
-PostUnique actions =
+-- no two actions that are in force in the situation set the same variable to the same value
+abbrev pub PostUnique : ℕ → List Action → Type 0
+PostUnique situation actions =
     (i j : ℕ) → i < length actions → j < length actions
+    → inForce situation (actionAt actions i) ≡ true → inForce situation (actionAt actions j) ≡ true
     → actionAt actions i .var ≡ actionAt actions j .var
     → actionAt actions i .post ≡ actionAt actions j .post
     → i ≡ j
 
 pub record Lawful (s : Study) : Type 0 where
+  pub situation : s .situation ≤ 7
   pub some-variable : 1 ≤ length (s .counts)
   pub few-variables : length (s .counts) ≤ 32
   pub some-values : (v : ℕ) → v < length (s .counts) → 2 ≤ getD (s .counts) v 0
   pub few-values : (v : ℕ) → v < length (s .counts) → getD (s .counts) v 0 ≤ 16
   pub few-actions : length (s .actions) ≤ 256
   pub action : (i : ℕ) → i < length (s .actions) → LawfulAction (s .counts) (actionAt (s .actions) i)
-  pub post-unique : PostUnique (s .actions)
+  pub post-unique : PostUnique (s .situation) (s .actions)
   pub a-task-each : length (s .tasks) ≡ length (s .counts)
   pub has-start : (v : ℕ) → v < length (s .tasks) → Has (s .counts) v (taskAt (s .tasks) v .start)
   pub has-goal : (v : ℕ) → v < length (s .tasks) → Has (s .counts) v (taskAt (s .tasks) v .goal)

@@ -1,10 +1,12 @@
--- How many bytes a file has that says a study, and how many the longest has.
+-- How many bytes a file has that says a study, where its actions stand, and how many bytes the longest has.
 -- Assumes nothing.
 use Prim.Native.Nat.{ℕ, _+_, _*_}
+use lib.Dec.{eqb}
 use mathlib.Core.List.{List, [], _∷_}
 use lib.ListN.{length}
-use Rattle.study.specs.Study.{Action, Study}
-use Rattle.study.specs.Reading.{Record, variable, action, condition, task, seed, end}
+use Rattle.plain.specs.Choose.{pick}
+use Rattle.study.specs.Study.{Action, Study, always}
+use Rattle.study.specs.Reading.{Record, variable, action, condition, task, seed, end, times, present}
 
 -- a record is its kind and its body
 abbrev pub bytesOf : Record → ℕ
@@ -14,16 +16,30 @@ bytesOf (condition v q) = 3
 bytesOf (task v p q) = 4
 bytesOf (seed n) = 5
 bytesOf end = 1
+bytesOf (times n) = 2
+bytesOf (present n) = 2
 
--- actions with their conditions
+-- a set of situations is written unless it has all eight, and the situation unless it is 0
+abbrev pub bytesOfTimes : ℕ → ℕ
+bytesOfTimes n = pick (eqb n always) 0 2
+
+abbrev pub bytesOfPresent : ℕ → ℕ
+bytesOfPresent n = pick (eqb n 0) 0 2
+
+-- actions with their conditions and their situations
 unfoldable pub bytesOfActions : List Action → ℕ
 bytesOfActions [] = 0
-bytesOfActions (a ∷ rest) = 4 + 3 * length (a .conditions) + bytesOfActions rest
+bytesOfActions (a ∷ rest) = 4 + 3 * length (a .conditions) + bytesOfTimes (a .situations) + bytesOfActions rest
 
--- the whole file: variables, actions, tasks, the seed and the end
+-- where the records of actions stand, the first at a place
+unfoldable pub placesFrom : ℕ → List Action → List ℕ
+placesFrom at [] = []
+placesFrom at (a ∷ rest) = at ∷ placesFrom (at + 4 + 3 * length (a .conditions) + bytesOfTimes (a .situations)) rest
+
+-- the whole file: the situation, variables, actions, tasks, the seed and the end
 unfoldable pub fileLength : Study → ℕ
-fileLength s = 2 * length (s .counts) + bytesOfActions (s .actions) + 4 * length (s .tasks) + 5 + 1
+fileLength s = bytesOfPresent (s .situation) + 2 * length (s .counts) + bytesOfActions (s .actions) + 4 * length (s .tasks) + 5 + 1
 
--- 32 variables, 256 actions with 31 conditions each, 32 tasks, the seed and the end: 25,030 bytes
+-- the situation, 32 variables, 256 actions with 31 conditions and their situations each, 32 tasks, the seed and the end: 25,544 bytes
 abbrev pub longestFile : ℕ
-longestFile = 2 * 32 + 256 * (4 + 3 * 31) + 4 * 32 + 5 + 1
+longestFile = 2 + 2 * 32 + 256 * (4 + 3 * 31 + 2) + 4 * 32 + 5 + 1

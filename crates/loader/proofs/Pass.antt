@@ -4,7 +4,6 @@ use mathlib.Core.Path.{_≡_, refl}
 use mathlib.Core.List.{List}
 use Prim.Native.Nat.{ℕ}
 use native.Mathlib.Omega.{arith}
-use lib.ListN.{replicate}
 use Rattle.study.specs.Reading.{refused, blank, reading}
 use Rattle.entering.specs.declared.Progress.{Progress}
 use Rattle.entering.specs.declared.Step.the-variants.{On, Refused, Done}
@@ -16,7 +15,7 @@ use Rattle.pacing.proofs.Arms.{Answers}
 use Rattle.pacing.proofs.Reached.{begun, settles, goes-further}
 use Rattle.pacing.proofs.Start.{nothing-known}
 
-pub begins : (file : List ℕ) {t : Tables} → Sized t → Halfway file t (replicate 512 0) origin
+pub begins : (file : List ℕ) {t : Tables} → Sized t → Halfway file t origin
 begins file sized =
     record {
       draft = blank;
@@ -26,22 +25,26 @@ begins file sized =
             knows = nothing-known _;
             sized = sized;
             actions = record { count = refl; few = omega arith; action = λ i h. absurd (omega arith) };
+            no-actions = λ h. refl;
+            placed = refl;
+            places = λ i h. absurd (omega arith);
             tasks = record { count = refl; start = λ v h. absurd (omega arith); goal = λ v h. absurd (omega arith) };
             all-tasks = λ h. absurd (omega arith);
             seed = refl;
             next-condition = λ h k. absurd (omega arith);
             counted = λ h k. absurd (omega arith);
+            still-in = λ h k. absurd (omega arith);
           };
     }
 
-module _ {file : List ℕ} {t : Tables} {m : List ℕ} {p : Progress} (safe : Safe file p (t .counts)) (h : Halfway file t m p) where
-  pub goes-on : {t′ : Tables} {m′ : List ℕ} {p′ : Progress} → Answers file p t m t′ m′ (On p′) → Halfway file t′ m′ p′
+module _ {file : List ℕ} {t : Tables} {p : Progress} (safe : Safe file p (t .counts)) (h : Halfway file t p) where
+  pub goes-on : {t′ : Tables} {p′ : Progress} → Answers file p t t′ (On p′) → Halfway file t′ p′
   goes-on a =
       let k = a .1 (h .draft) (h .stands) in
       record { draft = k .0; reached = goes-further (h .reached) (safe .inside) (k .1) (a .0 .0); stands = k .2 }
 
-  pub refuses : {n place : ℕ} → Answers file p t m t m (Refused n place) → reading file ≡ refused n place
+  pub refuses : {n place : ℕ} → Answers file p t t (Refused n place) → reading file ≡ refused n place
   refuses a = settles (h .reached) (safe .inside) (a .1 (h .draft) (h .stands))
 
-  pub ends : (t′ : Tables) (p′ : Progress) → Answers file p t m t′ m (Done p′) → Loads file t′ (Said-of.Study (p′ .vars) (p′ .actions) (p′ .seed))
+  pub ends : (t′ : Tables) (p′ : Progress) → Answers file p t t′ (Done p′) → Loads file t′ (Said-of.Study (p′ .vars) (p′ .actions) (p′ .seed))
   ends t′ p′ a = let k = a .1 (h .draft) (h .stands) in (k .0, settles (h .reached) (safe .inside) (k .1), k .2)

@@ -1,42 +1,84 @@
--- A run of conditions: each that is there and has no fault is taken, and leads on.
+-- Runs of records that are taken one after another: actions, each with its conditions and its situations.
 -- Assumes nothing.
 use mathlib.Core.Path.{_≡_, sym}
+use mathlib.Core.Bool.{true}
 use mathlib.Core.List.{List}
-use Prim.Native.Nat.{ℕ, _+_, _-_, _≤_}
+use Prim.Native.Nat.{ℕ, _+_, _-_, _/_, _%_, _≤_}
+use native.Mathlib.Omega.{arith}
+use lib.Dec.{eqb, ltb}
 use lib.ListN.{getD, set}
 use lib.Seq.{set-set, set-getD}
 use Rattle.records.specs.Records.{recordAt}
 use Rattle.records.specs.declared.Found.the-variants.{There}
-use Rattle.tables.specs.Tables.{ActionTables, tables}
-use Rattle.judging.specs.Faults.{conditionFault}
+use Rattle.study.specs.Reading.{mayFollow}
+use Rattle.tables.specs.Tables.{ActionTables, Tables, tables}
+use Rattle.judging.specs.Faults.{actionFault, conditionFault, timesFault}
 use Rattle.entering.specs.declared.Progress.{Progress}
-use Rattle.entering.specs.Steps.{withMany, afterCondition}
+use Rattle.entering.specs.declared.Step.the-variants.{On}
+use Rattle.entering.specs.Steps.{withMany, storedMany, storedAction, outBy, afterAction, afterCondition, afterTimes}
 use Rattle.pacing.specs.Reads.{Safe}
 use Rattle.loader.specs.Halfway.{Halfway}
-use Rattle.pacing.proofs.Arms.{may-condition, condition-arm}
+use Rattle.pacing.proofs.Arms.{Answers, may-condition, may-times, action-arm, condition-arm, times-arm}
 use Rattle.loader.proofs.Pass.{goes-on}
 
 -- the conditions of the last action: the tables are told of with their number entered, though it is entered only after the last of them
 abbrev pub Entered : ActionTables → Progress → ActionTables
 Entered acts p = withMany acts (p .actions - 1) (p .many)
 
-module _ {file : List ℕ} {p : Progress} {counts : List ℕ} (low : 2 ≤ p .last) (high : p .last ≤ 3) (acts : ActionTables) {starts goals m : List ℕ} where
+module _ {file : List ℕ} {p : Progress} {counts : List ℕ} (low : 2 ≤ p .last) (high : p .last ≤ 3) (acts : ActionTables) {starts goals : List ℕ} where
   -- before the first condition of a run it is entered already
-  pub many-entered : Halfway file (tables counts acts starts goals) m p → Halfway file (tables counts (Entered acts p) starts goals) m p
-  many-entered h =
-      let e : set (acts .manys) (p .actions - 1) (p .many) ≡ acts .manys =
-      rw (← h .stands .counted low high) (set-getD (acts .manys) (p .actions - 1) 0) in
-      rw e h
+  pub many-entered : Safe file p counts → Halfway file (tables counts acts starts goals) p → Halfway file (tables counts (Entered acts p) starts goals) p
+  many-entered safe h =
+      let small : p .many % 64 ≡ p .many = omega (arith, safe .bounds .fewer, safe .bounds .low) in
+      let in-force : p .many / 64 ≡ 0 = omega (arith, safe .bounds .fewer, safe .bounds .low) in
+      let manys : set (acts .manys) (p .actions - 1) (p .many % 64) ≡ acts .manys =
+      rw (small, ← h .stands .counted low high) (set-getD (acts .manys) (p .actions - 1) 0) in
+      let outs : set (acts .outs) (p .actions - 1) (p .many / 64) ≡ acts .outs =
+      rw (in-force, ← h .stands .still-in low high) (set-getD (acts .outs) (p .actions - 1) 0) in
+      rw (manys, outs) h
 
   pub condition-taken :
       Safe file p counts
-      → {start next : ℕ} → recordAt file (p .at) ≡ There 3 start next
-      → (v q : ℕ) → v ≡ getD file start 0 → q ≡ getD file (start + 1) 0
+      → recordAt file (p .at) ≡ There 3 (p .at + 1) (p .at + 1 + 2)
+      → (v q : ℕ) → v ≡ getD file (p .at + 1) 0 → q ≡ getD file (p .at + 2) 0
       → conditionFault counts (p .vars) (p .own) (p .above) v q ≡ 0
-      → Halfway file (tables counts (Entered acts p) starts goals) m p
-      → Halfway file (tables counts (Entered acts (afterCondition p v next)) starts goals) m (afterCondition p v next)
-  condition-taken safe {start} {next} there v q ev eq good h =
+      → Halfway file (tables counts (Entered acts p) starts goals) p
+      → Halfway file (tables counts (Entered acts (afterCondition p v (p .at + 3))) starts goals) (afterCondition p v (p .at + 3))
+  condition-taken safe there v q ev eq good h =
+      let next : p .at + 1 + 2 ≡ p .at + 3 = omega arith in
+      let second : p .at + 1 + 1 ≡ p .at + 2 = omega arith in
       goes-on safe h
-      (rw set-set at
-      (condition-arm file p start next (tables counts (Entered acts p) starts goals) m safe
-      there (may-condition _ low high) v q ev eq 0 (sym good)))
+      (rw (set-set (acts .manys), set-set (acts .outs)) at
+      (condition-arm file p (p .at + 1) (p .at + 3) (tables counts (Entered acts p) starts goals) safe
+      (rw next at there) (may-condition _ low high) v q ev (rw second eq) 0 (sym good)))
+
+  -- the situations after a run, entered with the number of its conditions
+  pub times-taken :
+      Safe file p counts
+      → recordAt file (p .at) ≡ There 7 (p .at + 1) (p .at + 1 + 1)
+      → (n : ℕ) → n ≡ getD file (p .at + 1) 0
+      → eqb (timesFault n) 0 ≡ true
+      → Halfway file (tables counts (Entered acts p) starts goals) p
+      → Halfway file (tables counts (storedMany (timesFault n) acts (p .actions - 1) (p .many + outBy n (p .situation))) starts goals) (afterTimes p (p .at + 2))
+  times-taken safe there n en good h =
+      let next : p .at + 1 + 1 ≡ p .at + 2 = omega arith in
+      rw good
+      (goes-on safe h
+      (rw (good, set-set (acts .manys), set-set (acts .outs)) at
+      (times-arm file p (p .at + 1) (p .at + 2) (tables counts (Entered acts p) starts goals) safe (rw next at there) (may-times _ low high) n en)))
+
+-- an action that may follow, without fault
+pub action-taken :
+    (file : List ℕ) (p : Progress) (t : Tables)
+    → Safe file p (t .counts)
+    → mayFollow (ltb (p .tasks) (p .vars)) (p .last) 2 ≡ true
+    → recordAt file (p .at) ≡ There 2 (p .at + 1) (p .at + 1 + 3)
+    → (v x y : ℕ) → v ≡ getD file (p .at + 1) 0 → x ≡ getD file (p .at + 2) 0 → y ≡ getD file (p .at + 3) 0
+    → (f : ℕ) → f ≡ actionFault (t .counts) (p .vars) (p .actions) v x y
+    → eqb f 0 ≡ true
+    → Answers file p t (tables (t .counts) (storedAction f (p .actions) v x y (p .at + 4) (t .acts)) (t .starts) (t .goals)) (On (afterAction p v (p .at + 4)))
+action-taken file p t safe may there v x y ev ex ey f ef good =
+    let next : p .at + 1 + 3 ≡ p .at + 4 = omega arith in
+    let second : p .at + 1 + 1 ≡ p .at + 2 = omega arith in
+    let third : p .at + 1 + 2 ≡ p .at + 3 = omega arith in
+    rw good (rw good at (action-arm file p (p .at + 1) (p .at + 4) t safe (rw next at there) may v x y ev (rw second ex) (rw third ey) f ef))

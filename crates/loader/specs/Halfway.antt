@@ -8,7 +8,7 @@ use Rattle.entering.specs.declared.Progress.{Progress}
 use Rattle.pacing.specs.Reads.{Stands, Reached}
 
 -- the draft that the tables hold at a place
-pub record Halfway (file : List ℕ) (t : Tables) (m : List ℕ) (p : Progress) : Type 0 where
+pub record Halfway (file : List ℕ) (t : Tables) (p : Progress) : Type 0 where
   pub draft : Draft
   pub reached : Reached file (p .at) draft
-  pub stands : Stands file p t m draft
+  pub stands : Stands file p t draft

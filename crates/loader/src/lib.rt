@@ -1,6 +1,10 @@
 // Reads a study file once and fills the tables that planning and running need.
+ghost use mathlib.Core.Path.{_≡_};
+ghost use mathlib.Core.Bool.{true};
 ghost use Prim.Native.Nat.{ℕ, _-_, _≤_};
 ghost use mathlib.Core.List.{List};
+ghost use lib.Dec.{ltb};
+ghost use Rattle.study.specs.Reading.{mayFollow};
 ghost use Rattle.tables.specs.Tables.{ActionTables, tables, Sized, Loads};
 ghost use Rattle.entering.specs.Steps.{withMany};
 ghost use Rattle.tables.specs.Rows.{countColumn, seenAll};
@@ -8,43 +12,38 @@ ghost use Rattle.pacing.specs.Reads.{Safe};
 ghost use Rattle.loader.specs.Halfway.{Halfway};
 use entering::Progress;
 use entering::Step;
-use records::Found;
 use tables::Loaded;
+
+const ACTION: u8 = 2;
 
 const CONDITION: u8 = 3;
 
-// Reads on while conditions of the last action follow that have no fault. Whatever comes then is left to the general step.
-// How many conditions the action has is entered once, by the caller.
+const SITUATIONS: u8 = 7;
+
+// Reads on while conditions of the last action follow that have no fault. Whatever comes then is left to the caller.
+// How many conditions the action has is entered once, by the caller too.
 fn conditions(file: &[u8], begin: Progress, rows: &[[u8; 3]; 32]) -> Progress
     requires { ⌜ Safe (now file) begin (countColumn (now rows)) ⌝ }
     requires { ⌜ (2 ≤ begin .last) × (begin .last ≤ 3) ⌝ }
     ensures { λ r. ⌜ Safe (now (file .entry)) r (countColumn (now (rows .entry))) ⌝ }
     ensures { λ r. ⌜ (2 ≤ r .last) × (r .last ≤ 3) × (begin .at ≤ r .at) ⌝ }
-    ensures { λ r. ⌜ ((acts : ActionTables) (starts goals marks : List ℕ)
-        → Halfway (now (file .entry)) (tables (countColumn (now (rows .entry))) acts starts goals) marks begin
-        → Halfway (now (file .entry)) (tables (countColumn (now (rows .entry))) (withMany acts (r .actions - 1) (r .many)) starts goals) marks r) ⌝ }
+    ensures { λ r. ⌜ ((acts : ActionTables) (starts goals : List ℕ)
+        → Halfway (now (file .entry)) (tables (countColumn (now (rows .entry))) acts starts goals) begin
+        → Halfway (now (file .entry)) (tables (countColumn (now (rows .entry))) (withMany acts (r .actions - 1) (r .many)) starts goals) r) ⌝ }
 {
     let mut p = begin;
     loop {
         let at = p.at;
-        let found = reader::record_from(file, at);
-        let Found::There {
-            kind,
-            start,
-            next: _,
-        } = found
-        else {
-            return p;
-        };
-        if kind != CONDITION {
+        if !records::is_at(file, at, CONDITION, 2) {
             return p;
         }
-        let v = file[start];
-        if judging::faults::condition_fault(rows, p.vars, p.own, p.above, v, file[start + 1]) != 0 {
+        let v = file[at + 1];
+        if judging::faults::condition_fault(rows, p.vars, p.own, p.above, v, file[at + 2]) != 0 {
             return p;
         }
         let next = Progress {
-            at: start + 2,
+            at: at + 3,
+            situation: p.situation,
             vars: p.vars,
             actions: p.actions,
             tasks: p.tasks,
@@ -58,25 +57,70 @@ fn conditions(file: &[u8], begin: Progress, rows: &[[u8; 3]; 32]) -> Progress
     }
 }
 
-// After an action, its conditions.
-fn with_conditions(
+// After an action, its conditions and its situations.
+fn whole_action(
     file: &[u8],
     p: Progress,
     acts: &mut [[u8; 6]; 256],
     rows: &[[u8; 3]; 32],
 ) -> Progress
-    requires { ⌜ Safe (now file) p (countColumn (now rows)) ⌝ }
+    requires { ⌜ Safe (now file) p (countColumn (now rows)) × (p .last ≡ 2) ⌝ }
     ensures { λ r. ⌜ Safe (now (file .entry)) r (countColumn (now (rows .entry))) × (p .at ≤ r .at) ⌝ }
-    ensures { λ r. ⌜ ((setters marks : List ℕ)
-        → Halfway (now (file .entry)) (seenAll (now (acts .entry)) (now (rows .entry)) setters) marks p
-        → Halfway (now (file .entry)) (seenAll (now (acts .exit)) (now (rows .entry)) setters) marks r) ⌝ }
+    ensures { λ r. ⌜ mayFollow (ltb (r .tasks) (r .vars)) (r .last) 2 ≡ true ⌝ }
+    ensures { λ r. ⌜ ((setters : List ℕ)
+        → Halfway (now (file .entry)) (seenAll (now (acts .entry)) (now (rows .entry)) setters) p
+        → Halfway (now (file .entry)) (seenAll (now (acts .exit)) (now (rows .entry)) setters) r) ⌝ }
 {
-    if p.last != 2 {
-        return p;
-    }
     let run = conditions(file, p, rows);
+    let at = run.at;
+    if records::is_at(file, at, SITUATIONS, 1) {
+        let step = entering::on_times(run, file[at + 1], at + 2, acts);
+        if let Step::On(after) = step {
+            return after;
+        }
+    }
     entering::enter_many(run.actions - 1, run.many, acts);
     run
+}
+
+// After an action, all that belongs to it, and actions that have no fault one after another. Whatever comes then is left to
+// the general step.
+fn actions(
+    file: &[u8],
+    begin: Progress,
+    acts: &mut [[u8; 6]; 256],
+    rows: &[[u8; 3]; 32],
+) -> Progress
+    requires { ⌜ Safe (now file) begin (countColumn (now rows)) ⌝ }
+    ensures { λ r. ⌜ Safe (now (file .entry)) r (countColumn (now (rows .entry))) × (begin .at ≤ r .at) ⌝ }
+    ensures { λ r. ⌜ ((setters : List ℕ)
+        → Halfway (now (file .entry)) (seenAll (now (acts .entry)) (now (rows .entry)) setters) begin
+        → Halfway (now (file .entry)) (seenAll (now (acts .exit)) (now (rows .entry)) setters) r) ⌝ }
+{
+    if begin.last != ACTION {
+        return begin;
+    }
+    let mut p = begin;
+    loop {
+        p = whole_action(file, p, acts, rows);
+        let at = p.at;
+        if !records::is_at(file, at, ACTION, 3) {
+            return p;
+        }
+        let step = entering::on_action(
+            p,
+            file[at + 1],
+            file[at + 2],
+            file[at + 3],
+            at + 4,
+            rows,
+            acts,
+        );
+        let Step::On(next) = step else {
+            return p;
+        };
+        p = next;
+    }
 }
 
 // Fills the tables by one pass over the file. They may hold anything before: no entry is believed that was not written.
@@ -90,10 +134,9 @@ pub fn load(
     ensures { λ r. ⌜ (Sized (seenAll (now (acts .entry)) (now (vars .entry)) (now (setters .entry)))
         → Loads (now (file .entry)) (seenAll (now (acts .exit)) (now (vars .exit)) (now (setters .exit))) r) ⌝ }
 {
-    // By variable and value, at 16 * v + q: whether some action sets it.
-    let mut marks = [0u8; 512];
     let mut p = Progress {
         at: 0,
+        situation: 0,
         vars: 0,
         actions: 0,
         tasks: 0,
@@ -104,10 +147,10 @@ pub fn load(
         seed: 0,
     };
     loop {
-        let taken = pacing::step(file, p, acts, vars, setters, &mut marks);
+        let taken = pacing::step(file, p, acts, vars, setters);
         match taken {
             Step::On(next) => {
-                p = with_conditions(file, next, acts, vars);
+                p = actions(file, next, acts, vars);
             }
             Step::Refused { number, place } => {
                 return Loaded::Refused { number, place };

@@ -1,4 +1,4 @@
-// The library that a host links: document 01's calls, exported to C with their contracts.
+// The library that a host links: the calls of documents 01 and 02, exported to C with their contracts.
 ghost use mathlib.Core.Path.{_≡_};
 ghost use Rattle.checker.specs.Check.{CheckAllows};
 ghost use Rattle.draw.specs.Draw.{DrawAllows};
@@ -89,6 +89,7 @@ pub extern "C" fn marrowkite_draw(seed: u64, count: u64, ranks: &mut [u8]) -> An
 
 #[no_mangle]
 pub extern "C" fn marrowkite_write(
+    situation: u8,
     variables: &[u8],
     actions: &[u8],
     conditions: &[u8],
@@ -96,8 +97,8 @@ pub extern "C" fn marrowkite_write(
     seed: u32,
     file: &mut [u8],
 ) -> Answer
-    ensures { λ r. ⌜ WriteAllows (now (variables .entry)) (now (actions .entry)) (now (conditions .entry)) (now (tasks .entry)) seed
+    ensures { λ r. ⌜ WriteAllows situation (now (variables .entry)) (now (actions .entry)) (now (conditions .entry)) (now (tasks .entry)) seed
         (now (file .entry)) r (now (file .exit)) ⌝ }
 {
-    writer::write(variables, actions, conditions, tasks, seed, file)
+    writer::write(situation, variables, actions, conditions, tasks, seed, file)
 }

@@ -90,11 +90,11 @@ module _
             → Justified t ranks rank b
         first-by b (inl m) = absurd (true≢false (sym m ∙ bit-zero b))
         first-by b (inr (away, f)) =
-            let (there, var, left) = setter away in
+            let (usable, var, left) = setter away in
             record {
               one = getD setters (16 * varOf t i + preOf t i) 0;
               other = i;
-              one-there = there;
+              one-there = usable .there;
               other-there = s .stand .there;
               one-rank = f;
               other-rank = sym (s .is-rank);

@@ -86,11 +86,11 @@ module _
               → (bit first b ≡ true) ⊎ Justified t ranks rank b
           set-by b (inl m) = old .only-setters b m
           set-by b (inr (away, e)) =
-              let (low, own, post) = setter away in
+              let (usable, own, post) = setter away in
               inr (record {
                 one = getD setters (16 * condition t i k .var + condition t i k .value) 0;
                 other = i;
-                one-there = low;
+                one-there = usable .there;
                 other-there = s .stand .there;
                 one-rank = e;
                 other-rank = sym (s .is-rank);
@@ -108,7 +108,7 @@ module _
                 one = i;
                 other = l;
                 one-there = s .stand .there;
-                other-there = on-walk-usable on;
+                other-there = on-walk-usable on .there;
                 one-rank = sym (e ∙ s .is-rank);
                 other-rank = f;
                 before = leaves (rw (own, pre) wanted);

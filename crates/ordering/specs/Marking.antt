@@ -10,7 +10,7 @@ use Rattle.bits.specs.Bits.{bit}
 use Rattle.study.specs.Study.{Study, conditionAt}
 use Rattle.tables.specs.declared.Act.{Act}
 use Rattle.walks.specs.Walks.{OnAWalk, ComesBefore, Wants, varOf, preOf, postOf, conditionsOf, startOf}
-use Rattle.tracing.specs.Facts.{NamesSetters, Tells}
+use Rattle.tracing.specs.Facts.{NamesUsable, Tells}
 use Rattle.tracing.specs.Steps.{Rowed}
 use Rattle.wanting.specs.Wanting.{StandAt, HaveSteps, FirstOff}
 use Rattle.wanting.specs.declared.Wanted.{Wanted}
@@ -26,7 +26,7 @@ pub record Surveyed (file : List ℕ) (place many rank : ℕ) (ranks firsts sett
   pub stand : StandAt file place many t i
   pub is-rank : rank ≡ getD ranks i 0
   pub actions : length ranks ≡ length (t .actions)
-  pub names : NamesSetters (length ranks) setters t
+  pub names : NamesUsable (length ranks) setters t
   pub starts : Tells startOf (length (t .tasks)) firsts t
   pub rowed : Rowed t (length (t .tasks)) steps
 

@@ -10,7 +10,7 @@ use Rattle.study.specs.Study.{Study}
 use Rattle.tables.specs.Rows.{Row, varColumn, preColumn, placeColumn, manyColumn, startColumn}
 use Rattle.walks.specs.Walks.{OnAWalk, ComesBefore, Met, startOf}
 use Rattle.planning.specs.Planning.{LowestOff}
-use Rattle.tracing.specs.Facts.{Wishes, NamesSetters, Tells}
+use Rattle.tracing.specs.Facts.{Wishes, NamesUsable, Tells}
 use Rattle.tracing.specs.Steps.{Rowed}
 use Rattle.ordering.specs.declared.Found.{Found}
 use Rattle.ordering.specs.declared.Found.the-variants.{Members, Off}
@@ -31,7 +31,7 @@ OrdersAll t ranks before (Off i u) = LowestOff t i u
 pub record Orderable
     (file : List ℕ) (a : ℕ) (vars pres places manys firsts setters steps : List ℕ) (t : Study) : Type 0 where
   pub wishes : Wishes file a vars pres places manys t
-  pub names : NamesSetters a setters t
+  pub names : NamesUsable a setters t
   pub starts : Tells startOf (length (t .tasks)) firsts t
   pub rowed : Rowed t (length (t .tasks)) steps
 

@@ -1,14 +1,14 @@
 -- Each kind of record, taken: the step answers to the verdict, and stays safe.
 -- Assumes nothing.
-use mathlib.Core.Path.{_≡_, refl, sym, ap, subst, _∙_}
-use mathlib.Core.Bool.{Bool, true, false, _&&_, and-eq-true-iff}
-use mathlib.Core.Logic.{inl, inr}
+use mathlib.Core.Path.{_≡_, refl, sym, ap, _∙_}
+use mathlib.Core.Bool.{Bool, true}
+use mathlib.Core.Logic.{inl, inr, _≢_}
 use mathlib.Core.List.{List, [], _∷_}
-use Prim.Native.Nat.{ℕ, zero, suc, _+_, _-_, _*_, _≤_, _<_}
+use Prim.Native.Nat.{ℕ, zero, suc, _+_, _-_, _/_, _%_, _≤_, _<_}
 use native.Mathlib.Omega.{arith}
-use lib.Dec.{leb, eqb, ltb, eqb·suc-zero}
+use lib.Dec.{eqb, ltb, eqb·suc-zero}
 use lib.ListN.{length, getD, set}
-use borrow.Author.Tests.{le-leb, leb-true, ltb-true, ltb-false}
+use borrow.Author.Tests.{le-leb, ltb-true, ltb-false}
 use types.Run.{OneOf}
 use denote.Enum.Declared.{tagOf}
 use Rattle.plain.specs.Choose.{pick}
@@ -17,25 +17,24 @@ use Rattle.records.specs.declared.Found.{Found}
 use Rattle.records.specs.declared.Found.the-variants.{There, Unknown, Cut, Ended}
 use Rattle.records.proofs.Found.{the-type}
 use Rattle.records.proofs.Laws.{there-lies}
-use Rattle.study.specs.Reading.{says, refused, Draft, Verdict, settled, onward, allowed, mayFollow, unless, fault, with, decoded, taken, judged, verdictAt, variable, action, condition, task, seed}
+use Rattle.study.specs.Reading.{Draft, Verdict, settled, onward, allowed, mayFollow, unless, fault, drafted, decoded, taken, ended, firstRepeat, judged, verdictAt, variable, action, condition, task, seed, times, present}
 use Rattle.study.proofs.Verdicts.{verdict-by, verdict-allowed}
-use Rattle.lawful.proofs.Order.{may-follow}
+use Rattle.lawful.proofs.Order.{stage, may-follow}
 use Rattle.entering.specs.declared.Progress.{Progress}
 use Rattle.entering.specs.declared.Step.{Step}
-use Rattle.entering.specs.declared.Step.the-variants.{Refused, Done}
-use Rattle.tables.specs.Tables.{Tables, tables, actionTables, HoldsTasks}
-use Rattle.judging.specs.Faults.{variableFault, actionFault, conditionFault, taskFault, seedFault}
-use Rattle.entering.specs.Steps.{unlessFault, stored, storedAction, storedMany, afterVariable, afterAction, afterCondition, afterTask, afterSeed}
-use Rattle.pacing.specs.Reads.{Safe, Knows, Stands, Further, Meets, seedOf, afterEnd, notThere}
-use Rattle.pacing.proofs.Told.{variable-fault-is, action-fault-is, condition-fault-is, task-fault-is, seed-fault-is}
-use Rattle.pacing.proofs.Entered.{variable-entered, action-entered, condition-entered, task-entered, seed-entered}
-use Rattle.pacing.proofs.Kept.{variable-kept, action-kept, condition-kept, task-kept, seed-kept}
+use Rattle.tables.specs.Tables.{Tables, tables, actionTables}
+use Rattle.judging.specs.Faults.{variableFault, actionFault, conditionFault, taskFault, seedFault, timesFault, presentFault}
+use Rattle.entering.specs.Steps.{unlessFault, stored, storedAction, storedMany, outBy, afterVariable, afterAction, afterCondition, afterTask, afterSeed, afterTimes, afterPresent}
+use Rattle.pacing.specs.Reads.{Safe, Knows, Stands, Further, Meets, seedOf, notThere}
+use Rattle.pacing.proofs.Told.{variable-fault-is, action-fault-is, condition-fault-is, task-fault-is, seed-fault-is, times-fault-is, present-fault-is}
+use Rattle.pacing.proofs.Entered.{variable-entered, action-entered, condition-entered, times-entered, task-entered, seed-entered, present-entered}
+use Rattle.pacing.proofs.Kept.{variable-kept, action-kept, condition-kept, times-kept, task-kept, seed-kept, present-kept}
 
 -- what a step is to do
-abbrev pub Answers : List ℕ → Progress → Tables → List ℕ → Tables → List ℕ → Step → Type 0
-Answers file p t m t′ m′ r = Further file (p .at) (t′ .counts) r × ((d : Draft) → Stands file p t m d → Meets file (verdictAt file (p .at) d) t′ m′ r)
+abbrev pub Answers : List ℕ → Progress → Tables → Tables → Step → Type 0
+Answers file p t t′ r = Further file (p .at) (t′ .counts) r × ((d : Draft) → Stands file p t d → Meets file (verdictAt file (p .at) d) t′ r)
 
-pub allowed-is : {p : Progress} {counts m : List ℕ} {d : Draft} → Knows p counts m d → (kind : ℕ) → allowed d kind ≡ mayFollow (ltb (p .tasks) (p .vars)) (p .last) kind
+pub allowed-is : {p : Progress} {counts : List ℕ} {d : Draft} → Knows p counts d → (kind : ℕ) → allowed d kind ≡ mayFollow (ltb (p .tasks) (p .vars)) (p .last) kind
 allowed-is knows kind = rw (knows .tasks, knows .counts .count, knows .last)
 
 -- the body of a record of a given kind lies inside the file
@@ -54,10 +53,25 @@ pub may-condition : (left : Bool) {last : ℕ} → 2 ≤ last → last ≤ 3 →
 unfolding mayFollow
 may-condition left {last} l h = rw (le-leb 2 last l, le-leb last 3 h)
 
--- a task comes after no seed
-task-last : (left : Bool) (last : ℕ) → mayFollow left last 4 ≡ true → last ≤ 4
+pub may-times : (left : Bool) {last : ℕ} → 2 ≤ last → last ≤ 3 → mayFollow left last 7 ≡ true
 unfolding mayFollow
-task-last left last may = leb-true last 4 (and-eq-true-iff (leb last 4) left .0 (and-eq-true-iff (leb 1 last) (leb last 4 && left) .0 may .1) .0)
+may-times left {last} l h = rw (le-leb 2 last l, le-leb last 3 h)
+
+pub may-action : (left : Bool) {last : ℕ} → 2 ≤ last → last ≤ 3 → mayFollow left last 2 ≡ true
+unfolding mayFollow
+may-action left {last} l h = rw (le-leb 1 last (omega arith), le-leb last 3 h)
+
+pub may-action-after-times : (left : Bool) → mayFollow left 7 2 ≡ true
+unfolding mayFollow
+may-action-after-times left = refl
+
+-- what comes before the seed comes after no seed
+pub before-the-seed : {last : ℕ} → stage last ≤ 4 → last ≢ 5
+before-the-seed early e = omega (arith, ap stage e)
+
+pub end-last : (left : Bool) (last : ℕ) → mayFollow left last 6 ≡ true → last ≡ 5
+unfolding decoded
+end-last left last may = may-follow left last 6 0 0 0 0 may
 
 further-unless :
     (file : List ℕ) (counts : Bool → List ℕ) (p after : Progress) (f : ℕ)
@@ -67,33 +81,49 @@ further-unless file counts p after zero h = h refl
 further-unless file counts p after (suc n) h = rw (eqb·suc-zero n) tt
 
 meets-unless :
-    (file : List ℕ) (t : Bool → Tables) (m : Bool → List ℕ) (p after : Progress) {v : Verdict} (d : Draft) (f : ℕ)
+    (file : List ℕ) (t : Bool → Tables) (p after : Progress) {v : Verdict} (d : Draft) (f : ℕ)
     → v ≡ unless f (p .at) (onward (after .at) d)
-    → (f ≡ 0 → Stands file after (t true) (m true) d)
-    → Meets file v (t (eqb f 0)) (m (eqb f 0)) (unlessFault f p after)
+    → (f ≡ 0 → Stands file after (t true) d)
+    → Meets file v (t (eqb f 0)) (unlessFault f p after)
 unfolding unless
-meets-unless file t m p after d zero e h = (d, e, h refl)
-meets-unless file t m p after d (suc n) e h = rw (eqb·suc-zero n) e
+meets-unless file t p after d zero e h = (d, e, h refl)
+meets-unless file t p after d (suc n) e h = rw (eqb·suc-zero n) e
 
-module _ (file : List ℕ) (p : Progress) (start next : ℕ) (t : Tables) (m : List ℕ) (safe : Safe file p (t .counts)) where
+-- the tables with the byte of the last action's row entered where a test holds
+abbrev withByte : Progress → Tables → ℕ → Bool → Tables
+withByte p t byte b =
+    tables (t .counts)
+    (actionTables (t .acts .setters) (t .acts .vars) (t .acts .pres) (t .acts .posts) (t .acts .places)
+    (pick b (set (t .acts .manys) (p .actions - 1) (byte % 64)) (t .acts .manys))
+    (pick b (set (t .acts .outs) (p .actions - 1) (byte / 64)) (t .acts .outs)))
+    (t .starts) (t .goals)
+
+module _ (file : List ℕ) (p : Progress) (start next : ℕ) (t : Tables) (safe : Safe file p (t .counts)) where
   -- what the entries ask for
   pub action-place : recordAt file (p .at) ≡ There 2 start next → mayFollow (ltb (p .tasks) (p .vars)) (p .last) 2 ≡ true → next < 65536
   unfolding decoded bodyLength bodyLengths
   action-place there may =
       let l = there-lies file (p .at) there in
       let k = may-follow (ltb (p .tasks) (p .vars)) (p .last) 2 0 0 0 0 may in
-      omega (arith, safe .bounds .short (omega arith))
+      omega (arith, safe .bounds .short (before-the-seed (omega arith)))
 
   pub condition-action : mayFollow (ltb (p .tasks) (p .vars)) (p .last) 3 ≡ true → 1 ≤ p .actions
   unfolding decoded
   condition-action may = let k = may-follow (ltb (p .tasks) (p .vars)) (p .last) 3 0 0 0 0 may in safe .bounds .some-action (k .1) (k .2)
 
+  pub times-action : mayFollow (ltb (p .tasks) (p .vars)) (p .last) 7 ≡ true → 1 ≤ p .actions
+  unfolding decoded
+  times-action may = let k = may-follow (ltb (p .tasks) (p .vars)) (p .last) 7 0 0 0 0 may in safe .bounds .some-action (k .1) (k .2)
+
+  few-conditions : p .many ≤ 32
+  few-conditions = omega (arith, safe .bounds .fewer, safe .bounds .low)
+
   pub variable-arm :
       recordAt file (p .at) ≡ There 1 start next
       → mayFollow (ltb (p .tasks) (p .vars)) (p .last) 1 ≡ true
       → (n : ℕ) → n ≡ getD file start 0
-      → Answers file p t m
-      (tables (stored (variableFault (p .vars) n) (t .counts) (p .vars) n) (t .acts) (t .starts) (t .goals)) m
+      → Answers file p t
+      (tables (stored (variableFault (p .vars) n) (t .counts) (p .vars) n) (t .acts) (t .starts) (t .goals))
       (unlessFault (variableFault (p .vars) n) p (afterVariable p next))
   unfolding decoded taken bodyLength bodyLengths
   variable-arm there may n en =
@@ -101,9 +131,9 @@ module _ (file : List ℕ) (p : Progress) (start next : ℕ) (t : Tables) (m : L
       let k = may-follow (ltb (p .tasks) (p .vars)) (p .last) 1 0 0 0 0 may in
       let f = variableFault (p .vars) n in (
         further-unless file (λ b. pick b (set (t .counts) (p .vars) n) (t .counts)) p (afterVariable p next) f
-            (λ z. (omega arith, record { inside = l .whole; bounds = variable-kept (safe .bounds) next n z (k .1) (omega arith) })),
-        λ d s. meets-unless file (λ b. tables (pick b (set (t .counts) (p .vars) n) (t .counts)) (t .acts) (t .starts) (t .goals)) (λ b. m) p (afterVariable p next)
-            (record { study = with (d .study) (variable n); last = 1 }) f
+            (λ z. (omega arith, record { inside = l .whole; bounds = variable-kept (safe .bounds) next n z (before-the-seed (omega arith)) (omega arith) })),
+        λ d s. meets-unless file (λ b. tables (pick b (set (t .counts) (p .vars) n) (t .counts)) (t .acts) (t .starts) (t .goals)) p (afterVariable p next)
+            (drafted d (p .at) 1 (variable n)) f
             (rw (variable-fault-is (s .knows) n, en) (verdict-allowed file (p .at) d there (allowed-is (s .knows) 1 ∙ may)))
             (λ z. variable-entered s next n (sym (variable-fault-is (s .knows) n) ∙ z)),
       )
@@ -112,24 +142,24 @@ module _ (file : List ℕ) (p : Progress) (start next : ℕ) (t : Tables) (m : L
       recordAt file (p .at) ≡ There 2 start next
       → mayFollow (ltb (p .tasks) (p .vars)) (p .last) 2 ≡ true
       → (v x y : ℕ) → v ≡ getD file start 0 → x ≡ getD file (start + 1) 0 → y ≡ getD file (start + 2) 0
-      → (f : ℕ) → f ≡ actionFault (t .counts) m (p .vars) (p .actions) v x y
-      → Answers file p t m (tables (t .counts) (storedAction f (p .actions) v x y next (t .acts)) (t .starts) (t .goals)) (stored f m (16 * v + y) 1) (unlessFault f p (afterAction p v next))
+      → (f : ℕ) → f ≡ actionFault (t .counts) (p .vars) (p .actions) v x y
+      → Answers file p t (tables (t .counts) (storedAction f (p .actions) v x y next (t .acts)) (t .starts) (t .goals)) (unlessFault f p (afterAction p v next))
   unfolding decoded taken bodyLength bodyLengths
   action-arm there may v x y ev ex ey f ef =
       let l = there-lies file (p .at) there in
       let k = may-follow (ltb (p .tasks) (p .vars)) (p .last) 2 0 0 0 0 may in
       let a = t .acts in (
         further-unless file (λ b. t .counts) p (afterAction p v next) f
-            (λ z. (omega arith, record { inside = l .whole; bounds = action-kept (safe .bounds) next m v x y (sym ef ∙ z) (k .2) (omega arith) })),
+            (λ z. (omega arith, record { inside = l .whole; bounds = action-kept (safe .bounds) next v x y (sym ef ∙ z) (before-the-seed (omega arith)) (omega arith) })),
         λ d s. meets-unless file
             (λ b. tables (t .counts)
-            (actionTables (pick b (set (a .setters) (16 * v + y) (p .actions)) (a .setters)) (pick b (set (a .vars) (p .actions) v) (a .vars)) (pick b (set (a .pres) (p .actions) x) (a .pres))
-            (pick b (set (a .posts) (p .actions) y) (a .posts)) (pick b (set (a .places) (p .actions) next) (a .places)) (pick b (set (a .manys) (p .actions) 0) (a .manys)))
+            (actionTables (a .setters) (pick b (set (a .vars) (p .actions) v) (a .vars)) (pick b (set (a .pres) (p .actions) x) (a .pres))
+            (pick b (set (a .posts) (p .actions) y) (a .posts)) (pick b (set (a .places) (p .actions) next) (a .places)) (pick b (set (a .manys) (p .actions) 0) (a .manys))
+            (pick b (set (a .outs) (p .actions) 0) (a .outs)))
             (t .starts) (t .goals))
-            (λ b. pick b (set m (16 * v + y) 1) m)
-            p (afterAction p v next) (record { study = with (d .study) (action v x y); last = 2 }) f
+            p (afterAction p v next) (drafted d (p .at) 2 (action v x y)) f
             (rw (ef ∙ action-fault-is (s .knows) v x y, ev, ex, ey) (verdict-allowed file (p .at) d there (allowed-is (s .knows) 2 ∙ may)))
-            (λ z. action-entered s next v x y (sym (action-fault-is (s .knows) v x y) ∙ (sym ef ∙ z)) (l .whole)),
+            (λ z. action-entered s next v x y (sym (action-fault-is (s .knows) v x y) ∙ (sym ef ∙ z)) (safe .bounds .known-situation) (omega arith) (l .whole)),
       )
 
   pub condition-arm :
@@ -137,25 +167,36 @@ module _ (file : List ℕ) (p : Progress) (start next : ℕ) (t : Tables) (m : L
       → mayFollow (ltb (p .tasks) (p .vars)) (p .last) 3 ≡ true
       → (v q : ℕ) → v ≡ getD file start 0 → q ≡ getD file (start + 1) 0
       → (f : ℕ) → f ≡ conditionFault (t .counts) (p .vars) (p .own) (p .above) v q
-      → Answers file p t m
-      (tables (t .counts)
-      (storedMany f (t .acts) (p .actions - 1) (p .many + 1))
-      (t .starts) (t .goals)) m
-      (unlessFault f p (afterCondition p v next))
+      → Answers file p t (tables (t .counts) (storedMany f (t .acts) (p .actions - 1) (p .many + 1)) (t .starts) (t .goals)) (unlessFault f p (afterCondition p v next))
   unfolding decoded taken bodyLength bodyLengths
   condition-arm there may v q ev eq f ef =
       let l = there-lies file (p .at) there in
       let k = may-follow (ltb (p .tasks) (p .vars)) (p .last) 3 0 0 0 0 may in
-      let a = t .acts in
       let second : getD file (p .at + 2) 0 ≡ q = sym (eq ∙ ap (λ (i : ℕ). getD file i 0) (omega arith)) in (
         further-unless file (λ b. t .counts) p (afterCondition p v next) f
             (λ z. (omega arith, record { inside = l .whole; bounds = condition-kept (safe .bounds) next v q (sym ef ∙ z) (k .1) (k .2) (omega arith) })),
-        λ d s. meets-unless file
-            (λ b. tables (t .counts) (actionTables (a .setters) (a .vars) (a .pres) (a .posts) (a .places) (pick b (set (a .manys) (p .actions - 1) (p .many + 1)) (a .manys))) (t .starts) (t .goals))
-            (λ b. m) p (afterCondition p v next) (record { study = with (d .study) (condition v q); last = 3 }) f
+        λ d s. meets-unless file (withByte p t (p .many + 1)) p (afterCondition p v next) (drafted d (p .at) 3 (condition v q)) f
             (rw (ef ∙ condition-fault-is (s .knows) v q, ev, eq) (verdict-allowed file (p .at) d there (allowed-is (s .knows) 3 ∙ may)))
-            (λ z. condition-entered s next v q (k .1) (k .2) (safe .bounds .some-action (k .1) (k .2)) (omega arith) (l .whole)
+            (λ z. condition-entered s next (k .1) (k .2) (safe .bounds .some-action (k .1) (k .2)) few-conditions v q (omega arith) (l .whole)
             (sym (ev ∙ ap (λ (i : ℕ). getD file i 0) (l .starts))) second),
+      )
+
+  pub times-arm :
+      recordAt file (p .at) ≡ There 7 start next
+      → mayFollow (ltb (p .tasks) (p .vars)) (p .last) 7 ≡ true
+      → (n : ℕ) → n ≡ getD file start 0
+      → Answers file p t
+      (tables (t .counts) (storedMany (timesFault n) (t .acts) (p .actions - 1) (p .many + outBy n (p .situation))) (t .starts) (t .goals))
+      (unlessFault (timesFault n) p (afterTimes p next))
+  unfolding decoded taken bodyLength bodyLengths
+  times-arm there may n en =
+      let l = there-lies file (p .at) there in
+      let k = may-follow (ltb (p .tasks) (p .vars)) (p .last) 7 0 0 0 0 may in (
+        further-unless file (λ b. t .counts) p (afterTimes p next) (timesFault n)
+            (λ z. (omega arith, record { inside = l .whole; bounds = times-kept (safe .bounds) next (k .1) (k .2) (omega arith) })),
+        λ d s. meets-unless file (withByte p t (p .many + outBy n (p .situation))) p (afterTimes p next) (drafted d (p .at) 7 (times n)) (timesFault n)
+            (rw (times-fault-is (s .knows) n, en) (verdict-allowed file (p .at) d there (allowed-is (s .knows) 7 ∙ may)))
+            (λ z. times-entered s next (k .1) (k .2) (safe .bounds .some-action (k .1) (k .2)) few-conditions n),
       )
 
   pub task-arm :
@@ -163,70 +204,63 @@ module _ (file : List ℕ) (p : Progress) (start next : ℕ) (t : Tables) (m : L
       → mayFollow (ltb (p .tasks) (p .vars)) (p .last) 4 ≡ true
       → (v x y : ℕ) → v ≡ getD file start 0 → x ≡ getD file (start + 1) 0 → y ≡ getD file (start + 2) 0
       → (f : ℕ) → f ≡ taskFault (t .counts) (p .vars) (p .tasks) v x y
-      → Answers file p t m (tables (t .counts) (t .acts) (stored f (t .starts) v x) (stored f (t .goals) v y)) m (unlessFault f p (afterTask p next))
+      → Answers file p t (tables (t .counts) (t .acts) (stored f (t .starts) v x) (stored f (t .goals) v y)) (unlessFault f p (afterTask p next))
   unfolding decoded taken bodyLength bodyLengths
   task-arm there may v x y ev ex ey f ef =
       let l = there-lies file (p .at) there in
       let k = may-follow (ltb (p .tasks) (p .vars)) (p .last) 4 0 0 0 0 may in (
         further-unless file (λ b. t .counts) p (afterTask p next) f
-            (λ z. (omega arith, record { inside = l .whole; bounds = task-kept (safe .bounds) next v x y (sym ef ∙ z) (task-last _ _ may) (omega arith) })),
-        λ d s. meets-unless file (λ b. tables (t .counts) (t .acts) (pick b (set (t .starts) v x) (t .starts)) (pick b (set (t .goals) v y) (t .goals))) (λ b. m) p (afterTask p next)
-            (record { study = with (d .study) (task v x y); last = 4 }) f
+            (λ z. (omega arith, record { inside = l .whole; bounds = task-kept (safe .bounds) next v x y (sym ef ∙ z) (before-the-seed (omega arith)) (omega arith) })),
+        λ d s. meets-unless file (λ b. tables (t .counts) (t .acts) (pick b (set (t .starts) v x) (t .starts)) (pick b (set (t .goals) v y) (t .goals))) p (afterTask p next)
+            (drafted d (p .at) 4 (task v x y)) f
             (rw (ef ∙ task-fault-is (s .knows) v x y, ev, ex, ey) (verdict-allowed file (p .at) d there (allowed-is (s .knows) 4 ∙ may)))
-            (λ z. task-entered s next v x y (sym (task-fault-is (s .knows) v x y) ∙ (sym ef ∙ z)) (ltb-true (p .tasks) (p .vars) (k .2))),
+            (λ z. task-entered s next v x y (sym (task-fault-is (s .knows) v x y) ∙ (sym ef ∙ z)) (ltb-true (p .tasks) (p .vars) (k .3))),
       )
 
   pub seed-arm :
       recordAt file (p .at) ≡ There 5 start next
       → mayFollow (ltb (p .tasks) (p .vars)) (p .last) 5 ≡ true
       → (n : ℕ) → n ≡ seedOf (getD file start 0) (getD file (start + 1) 0) (getD file (start + 2) 0) (getD file (start + 3) 0)
-      → Answers file p t m t m (unlessFault (seedFault n) p (afterSeed p n next))
+      → Answers file p t t (unlessFault (seedFault n) p (afterSeed p n next))
   unfolding decoded taken bodyLength bodyLengths
   seed-arm there may n en =
       let l = there-lies file (p .at) there in
       let k = may-follow (ltb (p .tasks) (p .vars)) (p .last) 5 0 0 0 0 may in (
         further-unless file (λ b. t .counts) p (afterSeed p n next) (seedFault n) (λ z. (omega arith, record { inside = l .whole; bounds = seed-kept (safe .bounds) next n })),
-        λ d s. meets-unless file (λ b. t) (λ b. m) p (afterSeed p n next) (record { study = with (d .study) (seed n); last = 5 }) (seedFault n)
+        λ d s. meets-unless file (λ b. t) p (afterSeed p n next) (drafted d (p .at) 5 (seed n)) (seedFault n)
             (rw (seed-fault-is (s .knows) n, en) (verdict-allowed file (p .at) d there (allowed-is (s .knows) 5 ∙ may)))
             (λ z. seed-entered s next n (ltb-false (p .tasks) (p .vars) (k .2))),
       )
 
-  pub end-arm :
-      recordAt file (p .at) ≡ There 6 start next
-      → mayFollow (ltb (p .tasks) (p .vars)) (p .last) 6 ≡ true
-      → Answers file p t m t m (afterEnd p (length file) next)
-  unfolding decoded taken fault unless
-  end-arm there may = (
-    further-at-end (ltb next (length file)),
-    λ d s. meets-at-end d s (ltb next (length file)) (verdict-allowed file (p .at) d there (allowed-is (s .knows) 6 ∙ may)),
-  )
-    where
-      last-is : p .last ≡ 5
-      last-is = may-follow (ltb (p .tasks) (p .vars)) (p .last) 6 0 0 0 0 may
-
-      further-at-end : (b : Bool) → Further file (p .at) (t .counts) (pick b (Refused 8 next) (Done p))
-      further-at-end true = tt
-      further-at-end false = tt
-
-      meets-at-end : (d : Draft) → Stands file p t m d → (b : Bool) {v : Verdict} → v ≡ settled (pick b (refused 8 next) (says (d .study))) → Meets file v t m (pick b (Refused 8 next) (Done p))
-      meets-at-end d s true e = e
-      meets-at-end d s false e = (
-        d .study,
-        e,
-        record {
-          sized = s .sized;
-          counts = s .knows .counts;
-          actions = s .actions;
-          tasks = subst (λ (n : ℕ). HoldsTasks n (t .starts) (t .goals) (d .study .tasks)) (let all = s .all-tasks (omega (arith, last-is)) in omega (arith, safe .bounds .few-tasks)) (s .tasks);
-          seed = s .seed;
-        },
+  pub present-arm :
+      recordAt file (p .at) ≡ There 8 start next
+      → mayFollow (ltb (p .tasks) (p .vars)) (p .last) 8 ≡ true
+      → (n : ℕ) → n ≡ getD file start 0
+      → Answers file p t t (unlessFault (presentFault n) p (afterPresent p n next))
+  unfolding decoded taken bodyLength bodyLengths
+  present-arm there may n en =
+      let l = there-lies file (p .at) there in
+      let k = may-follow (ltb (p .tasks) (p .vars)) (p .last) 8 0 0 0 0 may in (
+        further-unless file (λ b. t .counts) p (afterPresent p n next) (presentFault n)
+            (λ z. (omega arith, record { inside = l .whole; bounds = present-kept (safe .bounds) next n z (k .1) (omega arith) })),
+        λ d s. meets-unless file (λ b. t) p (afterPresent p n next) (drafted d (p .at) 8 (present n)) (presentFault n)
+            (rw (present-fault-is (s .knows) n, en) (verdict-allowed file (p .at) d there (allowed-is (s .knows) 8 ∙ may)))
+            (λ z. present-entered s next n (k .1)),
       )
 
+  pub end-verdict :
+      recordAt file (p .at) ≡ There 6 start next
+      → mayFollow (ltb (p .tasks) (p .vars)) (p .last) 6 ≡ true
+      → (d : Draft) → Stands file p t d
+      → verdictAt file (p .at) d ≡ settled (ended file next d (firstRepeat (d .study)))
+  unfolding decoded taken fault unless
+  end-verdict there may d s = verdict-allowed file (p .at) d there (allowed-is (s .knows) 6 ∙ may)
+
 -- what stands where no whole record of a known kind does
-module _ (file : List ℕ) (p : Progress) (t : Tables) (m : List ℕ) where
+module _ (file : List ℕ) (p : Progress) (t : Tables) where
   pub not-there-arm :
       (f : Found) → recordAt file (p .at) ≡ f → OneOf (1 ∷ 2 ∷ 3 ∷ []) (tagOf the-type f)
-      → Answers file p t m t m (notThere (ltb (p .tasks) (p .vars)) (p .last) f)
+      → Answers file p t t (notThere (ltb (p .tasks) (p .vars)) (p .last) f)
   unfolding judged
   not-there-arm (There kind start next) e h = absurd (none h)
     where

@@ -1,35 +1,36 @@
 -- A record taken without fault keeps every index and every sum in range.
 -- Assumes nothing.
 use mathlib.Core.Path.{_≡_}
+use mathlib.Core.Logic.{_≢_}
 use mathlib.Core.List.{List}
 use Prim.Native.Nat.{ℕ, _+_, _≤_, _<_}
 use native.Mathlib.Omega.{arith}
 use lib.ListN.{getD, set}
 use Rattle.plain.proofs.Lists.{one-set}
 use Rattle.entering.specs.declared.Progress.{Progress}
-use Rattle.judging.specs.Faults.{variableFault, actionFault, conditionFault, taskFault}
-use Rattle.entering.specs.Steps.{afterVariable, afterAction, afterCondition, afterTask, afterSeed}
+use Rattle.judging.specs.Faults.{variableFault, actionFault, conditionFault, taskFault, presentFault}
+use Rattle.entering.specs.Steps.{afterVariable, afterAction, afterCondition, afterTask, afterSeed, afterTimes, afterPresent}
 use Rattle.pacing.specs.Reads.{Bounds}
-use Rattle.judging.proofs.Bounds.{variable-bounds, action-bounds, condition-bounds, task-bounds}
+use Rattle.judging.proofs.Bounds.{variable-bounds, action-bounds, condition-bounds, task-bounds, present-bounds}
 
 module _ {p : Progress} {counts : List ℕ} (bounds : Bounds p counts) (next : ℕ) where
   pub variable-kept :
-      (n : ℕ) → variableFault (p .vars) n ≡ 0 → p .last ≤ 1 → next ≡ p .at + 2
+      (n : ℕ) → variableFault (p .vars) n ≡ 0 → p .last ≢ 5 → next ≡ p .at + 2
       → Bounds (afterVariable p next) (set counts (p .vars) n)
-  variable-kept n good low at =
+  variable-kept n good before at =
       let (few, _, small) = variable-bounds good in
-      let short = bounds .short (omega arith) in
+      let short = bounds .short before in
       let each : (v : ℕ) → v < p .vars + 1 → getD (set counts (p .vars) n) v 0 ≤ 16 =
       λ v h. one-set (λ m. m ≤ 16) counts (p .vars) n 0 small (omega arith) v (λ o. bounds .small v (omega arith)) in
       search arith
 
   pub action-kept :
-      (marks : List ℕ) (v x y : ℕ)
-      → actionFault counts marks (p .vars) (p .actions) v x y ≡ 0 → p .last ≤ 3 → next ≡ p .at + 4
+      (v x y : ℕ)
+      → actionFault counts (p .vars) (p .actions) v x y ≡ 0 → p .last ≢ 5 → next ≡ p .at + 4
       → Bounds (afterAction p v next) counts
-  action-kept marks v x y good low at =
-      let few = action-bounds counts marks good .0 in
-      let short = bounds .short (omega arith) in
+  action-kept v x y good before at =
+      let few = action-bounds counts good .0 in
+      let short = bounds .short before in
       search arith
 
   pub condition-kept :
@@ -38,18 +39,29 @@ module _ {p : Progress} {counts : List ℕ} (bounds : Bounds p counts) (next : �
       → Bounds (afterCondition p v next) counts
   condition-kept v q good low high at =
       let (there, _, _, rising) = condition-bounds counts good in
-      let short = bounds .short (omega arith) in
+      let shorter = bounds .shorter low high in
       let some-action = bounds .some-action low high in
+      search arith
+
+  pub times-kept : 2 ≤ p .last → p .last ≤ 3 → next ≡ p .at + 2 → Bounds (afterTimes p next) counts
+  times-kept low high at =
+      let shorter = bounds .shorter low high in
       search arith
 
   pub task-kept :
       (v x y : ℕ)
-      → taskFault counts (p .vars) (p .tasks) v x y ≡ 0 → p .last ≤ 4 → next ≡ p .at + 4
+      → taskFault counts (p .vars) (p .tasks) v x y ≡ 0 → p .last ≢ 5 → next ≡ p .at + 4
       → Bounds (afterTask p next) counts
-  task-kept v x y good high at =
+  task-kept v x y good before at =
       let (here, there, _, _) = task-bounds counts good in
-      let short = bounds .short high in
+      let short = bounds .short before in
       search arith
 
   pub seed-kept : (n : ℕ) → Bounds (afterSeed p n next) counts
   seed-kept n = search arith
+
+  pub present-kept : (n : ℕ) → presentFault n ≡ 0 → p .last ≡ 0 → next ≡ p .at + 2 → Bounds (afterPresent p n next) counts
+  present-kept n good first at =
+      let known = present-bounds good in
+      let here = bounds .unread first in
+      search arith

@@ -3,9 +3,9 @@ pub mod Reached
 pub mod Grows
 pub mod Actions
 pub mod OneCondition
-pub mod Marks
 pub mod Knowing
 pub mod Start
 pub mod Entered
 pub mod Kept
+pub mod Ends
 pub mod Arms

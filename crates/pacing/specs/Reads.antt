@@ -2,17 +2,17 @@
 -- Assumes nothing.
 use Prim.Native.Nat.{ℕ, _+_, _-_, _*_, _≤_, _<_}
 use mathlib.Core.Path.{_≡_}
+use mathlib.Core.Logic.{_≢_}
 use mathlib.Core.Bool.{Bool}
 use mathlib.Core.List.{List}
-use lib.Dec.{leb, ltb}
+use lib.Dec.{leb}
 use lib.ListN.{length, getD}
 use Rattle.plain.specs.Choose.{pick}
-use Rattle.study.specs.Study.{Action, Study}
-use Rattle.study.specs.Reading.{says, refused, Draft, Verdict, settled, onward, lastAction, above, mayFollow, sets, readOn, reading}
+use Rattle.study.specs.Study.{Study}
+use Rattle.study.specs.Reading.{says, refused, Draft, Verdict, settled, onward, lastAction, above, mayFollow, readOn, reading}
 use Rattle.records.specs.declared.Found.{Found}
 use Rattle.records.specs.declared.Found.the-variants.{There, Unknown, Cut, Ended}
 use Rattle.tables.specs.Tables.{Tables, Sized, HoldsCounts, HoldsActions, HoldsTasks, Holds}
-use Rattle.judging.specs.Faults.{setInTable}
 use Rattle.entering.specs.declared.Progress.{Progress}
 use Rattle.entering.specs.declared.Step.{Step}
 use Rattle.entering.specs.declared.Step.the-variants.{On, Refused, Done}
@@ -24,27 +24,26 @@ notThere left last (Unknown place) = Refused 2 place
 notThere left last (Cut kind place) = Refused (pick (mayFollow left last kind) 1 3) place
 notThere left last (Ended place) = Refused 1 place
 
--- after the end record nothing may follow
-abbrev pub afterEnd : Progress → ℕ → ℕ → Step
-afterEnd p len next = pick (ltb next len) (Refused 8 next) (Done p)
-
 -- four bytes, most significant first
 abbrev pub seedOf : ℕ → ℕ → ℕ → ℕ → ℕ
 seedOf a b c d = ((a * 256 + b) * 256 + c) * 256 + d
 
 -- before the first record
 abbrev pub origin : Progress
-origin = record { at = 0; vars = 0; actions = 0; tasks = 0; last = 0; own = 0; above = 0; many = 0; seed = 0 }
+origin = record { at = 0; situation = 0; vars = 0; actions = 0; tasks = 0; last = 0; own = 0; above = 0; many = 0; seed = 0 }
 
 -- what keeps every index and every sum in range, wherever the bytes come from
 pub record Bounds (p : Progress) (counts : List ℕ) : Type 0 where
+  pub known-situation : p .situation ≤ 7
   pub few-vars : p .vars ≤ 32
   pub few-actions : p .actions ≤ 256
   pub few-tasks : p .tasks ≤ p .vars
   pub small : (v : ℕ) → v < p .vars → getD counts v 0 ≤ 16
   pub low : p .above ≤ 32
   pub fewer : p .many ≤ p .above
-  pub short : p .last ≤ 4 → p .at ≤ 2 * p .vars + (100 * p .actions + (3 * p .above + 4 * p .tasks))
+  pub short : p .last ≢ 5 → p .at ≤ 2 + 2 * p .vars + (102 * p .actions + (3 * p .above + 4 * p .tasks))
+  pub shorter : 2 ≤ p .last → p .last ≤ 3 → p .at + 2 ≤ 2 + 2 * p .vars + (102 * p .actions + (3 * p .above + 4 * p .tasks))
+  pub unread : p .last ≡ 0 → p .at ≡ 0
   pub some-action : 2 ≤ p .last → p .last ≤ 3 → 1 ≤ p .actions
 
 -- .. in a file
@@ -52,31 +51,30 @@ pub record Safe (file : List ℕ) (p : Progress) (counts : List ℕ) : Type 0 wh
   pub inside : p .at ≤ length file
   pub bounds : Bounds p counts
 
--- each value that some action sets is marked, and no other
-pub record HoldsMarks (marks : List ℕ) (actions : List Action) : Type 0 where
-  pub long : length marks ≡ 512
-  pub tells : (v q : ℕ) → v < 32 → q < 16 → setInTable marks v q ≡ sets actions v q
-
--- the counts of values, the marks and the numbers answer to what has been read: they tell every fault
-pub record Knows (p : Progress) (table m : List ℕ) (d : Draft) : Type 0 where
+-- the counts of values and the numbers answer to what has been read: they tell every fault of a record
+pub record Knows (p : Progress) (table : List ℕ) (d : Draft) : Type 0 where
+  pub situation : p .situation ≡ d .study .situation
   pub counts : HoldsCounts (p .vars) table (d .study .counts)
   pub actions : p .actions ≡ length (d .study .actions)
-  pub marks : HoldsMarks m (d .study .actions)
   pub tasks : p .tasks ≡ length (d .study .tasks)
   pub last : p .last ≡ d .last
   pub own : p .own ≡ lastAction (d .study) .var
   pub above : (v : ℕ) → leb (p .above) v ≡ above (lastAction (d .study) .conditions) v
 
 -- .. and so do all the tables, and the place
-pub record Stands (file : List ℕ) (p : Progress) (t : Tables) (m : List ℕ) (d : Draft) : Type 0 where
-  pub knows : Knows p (t .counts) m d
+pub record Stands (file : List ℕ) (p : Progress) (t : Tables) (d : Draft) : Type 0 where
+  pub knows : Knows p (t .counts) d
   pub sized : Sized t
-  pub actions : HoldsActions file (p .actions) (t .acts) (d .study .actions)
+  pub actions : HoldsActions file (d .study .situation) (p .actions) (t .acts) (d .study .actions)
+  pub no-actions : p .last ≡ 0 → p .actions ≡ 0
+  pub placed : length (d .places) ≡ length (d .study .actions)
+  pub places : (i : ℕ) → i < p .actions → getD (t .acts .places) i 0 ≡ getD (d .places) i 0 + 4
   pub tasks : HoldsTasks (p .tasks) (t .starts) (t .goals) (d .study .tasks)
-  pub all-tasks : 5 ≤ p .last → p .vars ≤ p .tasks
+  pub all-tasks : p .last ≡ 5 → p .vars ≤ p .tasks
   pub seed : p .seed ≡ d .study .seed
   pub next-condition : 2 ≤ p .last → p .last ≤ 3 → getD (t .acts .places) (p .actions - 1) 0 + 3 * p .many ≡ p .at
   pub counted : 2 ≤ p .last → p .last ≤ 3 → getD (t .acts .manys) (p .actions - 1) 0 ≡ p .many
+  pub still-in : 2 ≤ p .last → p .last ≤ 3 → getD (t .acts .outs) (p .actions - 1) 0 ≡ 0
 
 -- what a file says is what is read on from a place, with what has been read before it; `looks` are enough to its end
 pub record Reached (file : List ℕ) (at : ℕ) (d : Draft) : Type 0 where
@@ -91,7 +89,7 @@ Further file at counts (Refused n place) = Unit {0}
 Further file at counts (Done p) = Unit {0}
 
 -- a step answers to the verdict on the record
-abbrev pub Meets : List ℕ → Verdict → Tables → List ℕ → Step → Type 0
-Meets file v t m (On p) = (d : Draft) × (v ≡ onward (p .at) d) × Stands file p t m d
-Meets file v t m (Refused n place) = v ≡ settled (refused n place)
-Meets file v t m (Done p) = (s : Study) × (v ≡ settled (says s)) × Holds file (p .vars) (p .actions) (p .seed) t s
+abbrev pub Meets : List ℕ → Verdict → Tables → Step → Type 0
+Meets file v t (On p) = (d : Draft) × (v ≡ onward (p .at) d) × Stands file p t d
+Meets file v t (Refused n place) = v ≡ settled (refused n place)
+Meets file v t (Done p) = (s : Study) × (v ≡ settled (says s)) × Holds file (p .vars) (p .actions) (p .seed) t s

@@ -1,13 +1,16 @@
 // One record read, judged and taken.
 ghost use mathlib.Core.Path.{_≡_};
 ghost use mathlib.Core.Bool.{true};
-ghost use Prim.Native.Nat.{ℕ};
+ghost use Prim.Native.Nat.{ℕ, _+_, _≤_};
+ghost use mathlib.Core.List.{List};
+ghost use lib.ListN.{length};
 ghost use lib.Dec.{ltb};
-ghost use Rattle.study.specs.Reading.{Draft, verdictAt, mayFollow};
+ghost use Rattle.study.specs.Reading.{Draft, settled, ended, firstRepeat, verdictAt, mayFollow};
 ghost use Rattle.records.specs.Records.{recordAt};
 ghost use Rattle.records.specs.declared.Found.the-variants.{There};
-ghost use Rattle.tables.specs.Rows.{countColumn, seenAll};
-ghost use Rattle.pacing.specs.Reads.{Safe, Stands, Further, Meets, notThere, afterEnd, seedOf};
+ghost use Rattle.tables.specs.Tables.{tables};
+ghost use Rattle.tables.specs.Rows.{countColumn, seen, seenAll};
+ghost use Rattle.pacing.specs.Reads.{Safe, Stands, Further, Meets, notThere, seedOf};
 use entering::Progress;
 use entering::Step;
 use judging::order;
@@ -38,9 +41,41 @@ fn not_there(p: Progress, found: Found) -> Step
     }
 }
 
-fn on_end(p: Progress, len: usize, next: usize) -> Step
-    ensures { λ r. ⌜ r ≡ afterEnd p len next ⌝ }
+// Where the record of an action stands, from the place of its first condition.
+fn record_place(place: usize) -> usize
+    ensures { λ r. ⌜ (4 ≤ place → r + 4 ≡ place) ⌝ }
 {
+    if place < 4 {
+        return 0;
+    }
+    place - 4
+}
+
+// The end record: 7 where an action repeats an earlier one, then 8 where something follows.
+fn on_end(
+    p: Progress,
+    len: usize,
+    next: usize,
+    acts: &[[u8; 6]; 256],
+    setters: &mut [u8; 512],
+) -> Step
+    requires { ⌜ p .actions ≤ 256 ⌝ }
+    ensures { λ r. ⌜ ((file counts : List ℕ) (at : ℕ) → Further file at counts r) ⌝ }
+    ensures { λ r. ⌜ ((file counts starts goals : List ℕ) (d : Draft)
+        → len ≡ length file
+        → p .last ≡ 5
+        → p .tasks ≤ p .vars
+        → Stands file p (tables counts (seen (now (setters .entry)) (now (acts .entry))) starts goals) d
+        → Meets file (settled (ended file next d (firstRepeat (d .study)))) (tables counts (seen (now (setters .exit)) (now (acts .entry))) starts goals) r) ⌝ }
+{
+    let repeat = setters::fill(p.actions, acts, setters);
+    if repeat < p.actions {
+        let act = tables::action_at(acts, repeat);
+        return Step::Refused {
+            number: 7,
+            place: record_place(act.place),
+        };
+    }
     if next < len {
         return Step::Refused {
             number: 8,
@@ -66,14 +101,13 @@ fn take(
     acts: &mut [[u8; 6]; 256],
     vars: &mut [[u8; 3]; 32],
     setters: &mut [u8; 512],
-    marks: &mut [u8; 512],
 ) -> Step
     requires { ⌜ Safe (now file) p (countColumn (now vars)) ⌝ }
     requires { ⌜ ((next : ℕ) × (recordAt (now file) (p .at) ≡ There kind start next) × (mayFollow (ltb (p .tasks) (p .vars)) (p .last) kind ≡ true)) ⌝ }
     ensures { λ r. ⌜ Further (now (file .entry)) (p .at) (countColumn (now (vars .exit))) r ⌝ }
     ensures { λ r. ⌜ ((d : Draft)
-        → Stands (now (file .entry)) p (seenAll (now (acts .entry)) (now (vars .entry)) (now (setters .entry))) (now (marks .entry)) d
-        → Meets (now (file .entry)) (verdictAt (now (file .entry)) (p .at) d) (seenAll (now (acts .exit)) (now (vars .exit)) (now (setters .exit))) (now (marks .exit)) r) ⌝ }
+        → Stands (now (file .entry)) p (seenAll (now (acts .entry)) (now (vars .entry)) (now (setters .entry))) d
+        → Meets (now (file .entry)) (verdictAt (now (file .entry)) (p .at) d) (seenAll (now (acts .exit)) (now (vars .exit)) (now (setters .exit))) r) ⌝ }
 {
     match kind {
         1 => entering::on_variable(p, file[start], start + 1, vars),
@@ -84,9 +118,7 @@ fn take(
             file[start + 2],
             start + 3,
             vars,
-            setters,
             acts,
-            marks,
         ),
         3 => entering::on_condition(p, file[start], file[start + 1], start + 2, vars, acts),
         4 => entering::on_task(
@@ -107,7 +139,9 @@ fn take(
             ),
             start + 4,
         ),
-        _ => on_end(p, file.len(), start),
+        7 => entering::on_times(p, file[start], start + 1, acts),
+        8 => entering::on_present(p, file[start], start + 1),
+        _ => on_end(p, file.len(), start, acts, setters),
     }
 }
 
@@ -118,13 +152,12 @@ pub fn step(
     acts: &mut [[u8; 6]; 256],
     vars: &mut [[u8; 3]; 32],
     setters: &mut [u8; 512],
-    marks: &mut [u8; 512],
 ) -> Step
     requires { ⌜ Safe (now file) p (countColumn (now vars)) ⌝ }
     ensures { λ r. ⌜ Further (now (file .entry)) (p .at) (countColumn (now (vars .exit))) r ⌝ }
     ensures { λ r. ⌜ ((d : Draft)
-        → Stands (now (file .entry)) p (seenAll (now (acts .entry)) (now (vars .entry)) (now (setters .entry))) (now (marks .entry)) d
-        → Meets (now (file .entry)) (verdictAt (now (file .entry)) (p .at) d) (seenAll (now (acts .exit)) (now (vars .exit)) (now (setters .exit))) (now (marks .exit)) r) ⌝ }
+        → Stands (now (file .entry)) p (seenAll (now (acts .entry)) (now (vars .entry)) (now (setters .entry))) d
+        → Meets (now (file .entry)) (verdictAt (now (file .entry)) (p .at) d) (seenAll (now (acts .exit)) (now (vars .exit)) (now (setters .exit))) r) ⌝ }
 {
     let at = p.at;
     let found = reader::record_from(file, at);
@@ -142,5 +175,5 @@ pub fn step(
             place: at,
         };
     }
-    take(file, p, kind, start, acts, vars, setters, marks)
+    take(file, p, kind, start, acts, vars, setters)
 }

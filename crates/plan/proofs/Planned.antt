@@ -24,7 +24,7 @@ use Rattle.telling.proofs.Shown.{Agree, lines-agree}
 runs-usable :
     (t : Study) (s end : State) (list : List ℕ) → Runs t s list end → (k : ℕ) → k < length list → getD list k 0 < length (t .actions)
 runs-usable t s end [] r k h = absurd (omega arith)
-runs-usable t s end (i ∷ rest) r zero h = r .0
+runs-usable t s end (i ∷ rest) r zero h = r .0 .there
 runs-usable t s end (i ∷ rest) r (suc k) h = runs-usable t (after s (actionAt (t .actions) i)) end rest (r .2) k (omega arith)
 
 pub record Planned (said : Said) (r : Answer) (buffer : List ℕ) : Type 0 where

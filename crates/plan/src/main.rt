@@ -12,7 +12,7 @@ use libc::STDIN_FILENO;
 use libc::STDOUT_FILENO;
 
 // One byte more than the longest file has, as `read` asks: of a longer one these bytes are planned, and refused.
-const ROOM: usize = 25031;
+const ROOM: usize = 25545;
 
 fn main() {
     let mut file = [0u8; ROOM];

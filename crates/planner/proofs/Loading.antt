@@ -24,6 +24,7 @@ loaded-known {file} {t = t} said holds =
       lawful = lawful;
       variables = holds .counts .count ∙ sym (lawful .a-task-each);
       actions = holds .actions;
+      setters = holds .setters;
       tasks = holds .tasks;
       seed = holds .seed;
     }

@@ -40,7 +40,7 @@ pub each-straight-plan-first :
 each-straight-plan-first {t} {list} lawful straight = (given .ranks, (given .rank-list, first))
   where
     given : Returned (OnAWalk t) (ComesBefore t) (length (t .actions)) list
-    given = each-order-returned (OnAWalk t) (ComesBefore t) (length (t .actions)) (λ x o. on-walk-usable o) list (straight-is-order lawful straight)
+    given = each-order-returned (OnAWalk t) (ComesBefore t) (length (t .actions)) (λ x o. on-walk-usable o .there) list (straight-is-order lawful straight)
 
     first : FirstPlan t (given .ranks) list
     first =

@@ -1,11 +1,12 @@
--- Taking the least rank first finds the first of all straight plans where it takes every walk action, and a ring where it is stuck.
+-- Straight plans are equally long and use no action out of force; taking the least rank first finds the first of them where it takes every walk action, and a ring where it is stuck.
 -- Assumes nothing.
 use Prim.Native.Nat.{ℕ}
-use mathlib.Core.Path.{_≡_}
+use mathlib.Core.Path.{_≡_, sym, _∙_}
+use mathlib.Core.Bool.{false, true≢false}
 use mathlib.Core.List.{List}
 use lib.ListN.{length}
 use Rattle.ranks.specs.Ranks.{RankList}
-use Rattle.study.specs.Study.{Study}
+use Rattle.study.specs.Study.{Study, inForce, actionAt}
 use Rattle.lawful.specs.Lawful.{Lawful}
 use Rattle.plans.specs.Plans.{Usable, startState, StraightPlan}
 use Rattle.orders.specs.Orders.{In, None, Takes, OnRing, Greedy}
@@ -28,10 +29,14 @@ straight-equally-long {t} {xs} {ys} lawful p q =
 pub straight-usable : {t : Study} {list : List ℕ} → StraightPlan t list → (x : ℕ) → In x list → Usable t x
 straight-usable {t} {list} p = runs-usable t (startState t) list (p .plan .end) (p .plan .runs)
 
+pub out-of-force-unused :
+    {t : Study} {list : List ℕ} → StraightPlan t list → (x : ℕ) → inForce (t .situation) (actionAt (t .actions) x) ≡ false → In x list → ⊥
+out-of-force-unused p x out h = true≢false (sym (straight-usable p x h .in-force) ∙ out)
+
 pub first-plan-determined :
     {t : Study} {ranks xs ys : List ℕ} → RankList (length (t .actions)) ranks → FirstPlan t ranks xs → FirstPlan t ranks ys → xs ≡ ys
 first-plan-determined {t} {ranks} {xs} {ys} r p q =
-    first-antisym (Usable t) (rankIn ranks) (rank-list-tells-apart (Usable t) (length (t .actions)) (λ x h. h) r) xs ys
+    first-antisym (Usable t) (rankIn ranks) (rank-list-tells-apart (Usable t) (length (t .actions)) (λ x h. h .there) r) xs ys
     (straight-usable (p .straight)) (straight-usable (q .straight)) (p .first ys (q .straight)) (q .first xs (p .straight))
 
 greedy-takes :
@@ -47,7 +52,7 @@ greedy-is-first-plan {t} {ranks} {list} lawful walks met r g all = record {
   straight = order-is-straight lawful walks met list (all-taken-is-order (OnAWalk t) (ComesBefore t) list (greedy-takes t ranks list g) all);
   first = λ other p.
       greedy-first (OnAWalk t) (ComesBefore t) (rankIn ranks)
-      (rank-list-tells-apart (OnAWalk t) (length (t .actions)) (λ x o. on-walk-usable o) r) None list other g (straight-is-order lawful p);
+      (rank-list-tells-apart (OnAWalk t) (length (t .actions)) (λ x o. on-walk-usable o .there) r) None list other g (straight-is-order lawful p);
 }
 
 -- the list of all walk actions

@@ -2,3 +2,4 @@ pub mod States
 pub mod Running
 pub mod Again
 pub mod Straight
+pub mod Usable

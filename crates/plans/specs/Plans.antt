@@ -3,9 +3,10 @@
 use Prim.Native.Nat.{ℕ, _<_}
 use mathlib.Core.Path.{_≡_}
 use mathlib.Core.Logic.{_≢_}
+use mathlib.Core.Bool.{true}
 use mathlib.Core.List.{List, [], _∷_}
 use lib.ListN.{length, getD, set}
-use Rattle.study.specs.Study.{Condition, Action, Task, Study, actionAt, taskAt}
+use Rattle.study.specs.Study.{Condition, Action, Task, Study, inForce, actionAt, taskAt}
 
 -- a state gives each variable one value
 abbrev pub State : Type 0
@@ -28,9 +29,10 @@ pub record May (s : State) (a : Action) : Type 0 where
 abbrev pub after : State → Action → State
 after s a = set s (a .var) (a .post)
 
--- the actions that a plan may use
-abbrev pub Usable : Study → ℕ → Type 0
-Usable t i = i < length (t .actions)
+-- the actions that a plan may use: those in force in the study's situation
+pub record Usable (t : Study) (i : ℕ) : Type 0 where
+  pub there : i < length (t .actions)
+  pub in-force : inForce (t .situation) (actionAt (t .actions) i) ≡ true
 
 abbrev pub startsOf : List Task → State
 startsOf [] = []

@@ -1,7 +1,9 @@
 // Reads one record of a study file: any bytes, any place.
 ghost use mathlib.Core.Path.{_≡_};
-ghost use Prim.Native.Nat.{_<_};
-ghost use Rattle.records.specs.Records.{recordAt, bodyAt, bodied};
+ghost use mathlib.Core.Bool.{true};
+ghost use Prim.Native.Nat.{_+_, _≤_, _<_};
+ghost use Rattle.records.specs.declared.Found.the-variants.{There};
+ghost use Rattle.records.specs.Records.{bodyLength, recordAt, bodyAt, bodied};
 
 // What stands at a place of a file.
 pub enum Found {
@@ -32,7 +34,17 @@ fn with_body(len: usize, at: usize, kind: u8, body: usize) -> Found
     }
 }
 
-// Each kind has its own call, so that who reads on by the kind need not test it again.
+// The lengths of the bodies, four bits for each kind, the lowest for kind 0.
+const LENGTHS: u64 = 0x110432310;
+
+fn body_length(kind: u8) -> usize
+    requires { ⌜ (1 ≤ kind) × (kind ≤ 8) ⌝ }
+    ensures { λ r. ⌜ (r ≡ bodyLength kind) × (r ≤ 4) ⌝ }
+{
+    ((LENGTHS >> (4 * kind)) % 16) as usize
+}
+
+// The length is looked up without a jump, so that who reads on by the kind jumps once.
 pub fn record_at(file: &[u8], at: usize) -> Found
     ensures { λ r. ⌜ r ≡ recordAt (now (file .entry)) at ⌝ }
 {
@@ -41,15 +53,28 @@ pub fn record_at(file: &[u8], at: usize) -> Found
         return Found::Ended { place: len };
     }
     let kind = file[at];
-    match kind {
-        1 => with_body(len, at, 1, 1),
-        2 => with_body(len, at, 2, 3),
-        3 => with_body(len, at, 3, 2),
-        4 => with_body(len, at, 4, 3),
-        5 => with_body(len, at, 5, 4),
-        6 => with_body(len, at, 6, 0),
-        _ => Found::Unknown { place: at },
+    if kind < 1 {
+        return Found::Unknown { place: at };
     }
+    if 8 < kind {
+        return Found::Unknown { place: at };
+    }
+    with_body(len, at, kind, body_length(kind))
+}
+
+// Whether a whole record of this kind stands at a place, its body so long: for who asks for one kind alone. Who is told no
+// is told nothing else, and asks record_at.
+pub fn is_at(file: &[u8], at: usize, kind: u8, body: usize) -> bool
+    ensures { λ r. ⌜ (1 ≤ kind → kind ≤ 8 → body ≡ bodyLength kind → r ≡ true
+        → recordAt (now (file .entry)) at ≡ There kind (at + 1) (at + 1 + body)) ⌝ }
+{
+    if file.len() <= at {
+        return false;
+    }
+    if file[at] != kind {
+        return false;
+    }
+    body < file.len() - at
 }
 
 // The body of the record at a place, as the part of the file that holds it; empty where no record is there.

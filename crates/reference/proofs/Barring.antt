@@ -97,7 +97,7 @@ module _ {t : Study} (lawful : Lawful t) where
 
   on-walk-met : (i : ℕ) → OnAWalk t i → (SomeOff t i → ⊥) → (u q : ℕ) → Wants (conditionsOf t i) u q → ValueOnWalk t u q
   on-walk-met i o n u q w =
-      none-off (conditionsOf t i) u (λ h. n (u, (wanted-there (lawful .action i (on-walk-usable o) .conditions) u q w, h))) q w
+      none-off (conditionsOf t i) u (λ h. n (u, (wanted-there (lawful .action i (on-walk-usable o .there) .conditions) u q w, h))) q w
 
   off-at :
       Walks t → (i : ℕ) → OnAWalk t i → SomeOff t i → ((j : ℕ) → j < i → OnAWalk t j × SomeOff t j → ⊥)
@@ -131,4 +131,4 @@ module _ {t : Study} (lawful : Lawful t) where
       go (is-nowhere n) (is-lowest {x = i} there (on, some-off) lower) =
           off-at (λ v h. has-walk v (n v h)) i on some-off lower (off-variable-tells i)
       go (is-nowhere n) (is-nowhere m) =
-          no-bar (λ v h. has-walk v (n v h)) (λ i o. on-walk-met i o (λ s. m i (on-walk-usable o) (o, s)))
+          no-bar (λ v h. has-walk v (n v h)) (λ i o. on-walk-met i o (λ s. m i (on-walk-usable o .there) (o, s)))

@@ -116,7 +116,7 @@ module _ {t : Study} (lawful : Lawful t) where
 
   pub walk-action-in : (x : ℕ) → OnAWalk t x → In x (walkActions t)
   unfolding walkActions
-  walk-action-in x o = in-passing says-on-walk x (rising (length (t .actions))) (below-in (length (t .actions)) x (on-walk-usable o)) o
+  walk-action-in x o = in-passing says-on-walk x (rising (length (t .actions))) (below-in (length (t .actions)) x (on-walk-usable o .there)) o
 
   pub in-walk-actions : (x : ℕ) → In x (walkActions t) → OnAWalk t x
   unfolding walkActions

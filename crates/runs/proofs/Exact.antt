@@ -13,7 +13,7 @@ use Rattle.plans.specs.Plans.{State, after, May, Usable, Runs, Reached, NeverHe
 use Rattle.plans.proofs.Again.{pastOf}
 use Rattle.runs.specs.Run.{Ran, endsIn, stops, away, runOn}
 use Rattle.runs.proofs.First.{finds-none, finds-first}
-use Rattle.runs.proofs.Stops.{AtGoal, Refuses, no-action, may-not, held-before, goal-missed, StopsAt}
+use Rattle.runs.proofs.Stops.{AtGoal, Refuses, no-action, out-of-force, may-not, held-before, goal-missed, StopsAt}
 use Rattle.runs.proofs.Searches.{may-unbarred, bars-barred, never-held, was-held, goal-found}
 use Rattle.runs.proofs.Outcomes.{Outcome, outcome}
 
@@ -24,7 +24,7 @@ step-done :
 unfolding runOn
 step-done t past s k i rest usable may never =
     let a = actionAt (t .actions) i in
-    rw (lt-leb (length (t .actions)) i usable, may-unbarred s a may, never-held (s ∷ past) (a .var) (a .post) never)
+    rw (lt-leb (length (t .actions)) i (usable .there), usable .in-force, may-unbarred s a may, never-held (s ∷ past) (a .var) (a .post) never)
 
 -- once the front is done, the run is that of the rest
 pub front-done :
@@ -45,11 +45,12 @@ refused-stops :
     → Refuses t past s k list n x y → runOn t past s k list ≡ stops (three n x y)
 unfolding runOn
 refused-stops t past s k list n x y (no-action {i} h) = rw (le-leb (length (t .actions)) i h)
+refused-stops t past s k list n x y (out-of-force {i} h o) = rw (lt-leb (length (t .actions)) i h, o)
 refused-stops t past s k list n x y (may-not {i} {v} usable bars) =
-    rw (lt-leb (length (t .actions)) i usable, bars-barred s (actionAt (t .actions) i) v bars)
+    rw (lt-leb (length (t .actions)) i (usable .there), usable .in-force, bars-barred s (actionAt (t .actions) i) v bars)
 refused-stops t past s k list n x y (held-before {i} usable may o) =
     let a = actionAt (t .actions) i in
-    rw (lt-leb (length (t .actions)) i usable, may-unbarred s a may, was-held (s ∷ past) (a .var) (a .post) o)
+    rw (lt-leb (length (t .actions)) i (usable .there), usable .in-force, may-unbarred s a may, was-held (s ∷ past) (a .var) (a .post) o)
 refused-stops t past s k list n x y (goal-missed {v} first) =
     rw (finds-first (AtGoal t s) (length (t .tasks)) (λ v. v) (away s 0 (t .tasks)) v (goal-found t s) first)
 

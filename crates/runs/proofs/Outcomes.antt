@@ -11,11 +11,11 @@ use borrow.Author.Tests.{leb-true, leb-false}
 use Rattle.plain.specs.Choose.{pick}
 use Rattle.plain.proofs.Tests.{picked}
 use Rattle.answer.specs.Answers.{three}
-use Rattle.study.specs.Study.{Action, Study, actionAt}
+use Rattle.study.specs.Study.{Action, Study, inForce, actionAt}
 use Rattle.plans.specs.Plans.{State, after, May, Usable, Runs, Reached, NeverHeld, NoneAgain}
 use Rattle.runs.specs.Run.{Ran, endsIn, stops, Failing, none, fails, barred, held, away, atGoal, stepped, runOn}
 use Rattle.runs.proofs.First.{Found}
-use Rattle.runs.proofs.Stops.{AtGoal, Refuses, no-action, may-not, held-before, goal-missed, StopsAt}
+use Rattle.runs.proofs.Stops.{AtGoal, Refuses, no-action, out-of-force, may-not, held-before, goal-missed, StopsAt}
 use Rattle.runs.proofs.Searches.{BarredBy, barred-by, HeldSays, held-says, goal-found}
 
 abbrev pub Outcome : Study → List State → State → ℕ → List ℕ → Ran → Type 0
@@ -70,5 +70,8 @@ outcome t past s k (i ∷ rest) =
     picked (Outcome t past s k (i ∷ rest)) (leb (length (t .actions)) i)
     (λ e. stops-here t past s k (i ∷ rest) (no-action (leb-true (length (t .actions)) i e)))
     λ e.
-    at-step t past s k i rest (leb-false (length (t .actions)) i e)
-    (runOn t (s ∷ past) (after s a) (k + 1) rest) (outcome t (s ∷ past) (after s a) (k + 1) rest) (barred s a) (barred-by s a)
+    picked (Outcome t past s k (i ∷ rest)) (inForce (t .situation) a)
+    (λ f.
+    at-step t past s k i rest (record { there = leb-false (length (t .actions)) i e; in-force = f })
+    (runOn t (s ∷ past) (after s a) (k + 1) rest) (outcome t (s ∷ past) (after s a) (k + 1) rest) (barred s a) (barred-by s a))
+    λ f. stops-here t past s k (i ∷ rest) (out-of-force (leb-false (length (t .actions)) i e) f)

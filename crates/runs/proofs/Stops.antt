@@ -1,12 +1,13 @@
--- Where a run stops: each refusal of document 01 (14 to 17) by its rule, and how far the list was done before it.
+-- Where a run stops: each refusal (14, 20, 15, 16, 17) by its rule, and how far the list was done before it.
 -- Assumes nothing.
 use mathlib.Core.Path.{_≡_}
 use mathlib.Core.Logic.{_≢_}
+use mathlib.Core.Bool.{false}
 use mathlib.Core.List.{List, [], _∷_, _++_}
-use Prim.Native.Nat.{ℕ, _+_, _≤_}
+use Prim.Native.Nat.{ℕ, _+_, _≤_, _<_}
 use lib.ListN.{length}
-use Rattle.study.specs.Study.{Condition, Action, Study, actionAt, taskAt, conditionAt}
-use Rattle.plans.specs.Plans.{State, valueOf, May, Usable, Runs, NeverHeld, NoneAgain}
+use Rattle.study.specs.Study.{Condition, Action, Study, inForce, actionAt, taskAt, conditionAt}
+use Rattle.plans.specs.Plans.{State, valueOf, May, Usable, startState, Runs, NeverHeld, NoneAgain}
 use Rattle.plans.proofs.States.{HoldsAt}
 use Rattle.plans.proofs.Again.{pastOf}
 use Rattle.runs.proofs.First.{First}
@@ -29,6 +30,9 @@ AtGoal t s v = valueOf s v ≡ taskAt (t .tasks) v .goal
 -- in a state with a past, what is left of the list, from step k on, is refused at once: the answer's three numbers
 pub data Refuses (t : Study) (past : List State) (s : State) (k : ℕ) : List ℕ → ℕ → ℕ → ℕ → Type 0 where
   no-action : {i : ℕ} {rest : List ℕ} → length (t .actions) ≤ i → Refuses t past s k (i ∷ rest) 14 k 0
+  out-of-force :
+      {i : ℕ} {rest : List ℕ} → i < length (t .actions) → inForce (t .situation) (actionAt (t .actions) i) ≡ false
+      → Refuses t past s k (i ∷ rest) 20 k 0
   may-not : {i v : ℕ} {rest : List ℕ} → Usable t i → Bars s (actionAt (t .actions) i) v → Refuses t past s k (i ∷ rest) 15 k v
   held-before :
       {i : ℕ} {rest : List ℕ} → Usable t i → May s (actionAt (t .actions) i)
@@ -47,3 +51,16 @@ pub record StopsAt (t : Study) (past : List State) (s : State) (k : ℕ) (list :
   pub step : ℕ
   pub counted : step ≡ k + length front
   pub refuses : Refuses t (pastOf t past s front) state step rest number first second
+
+-- step k is the first that names an action out of force: it is there, and all before it may be done and takes no value again
+pub record OutOfForceAt (t : Study) (list : List ℕ) (k : ℕ) : Type 0 where
+  pub front : List ℕ
+  pub action : ℕ
+  pub rest : List ℕ
+  pub parts : list ≡ front ++ (action ∷ rest)
+  pub counted : k ≡ length front
+  pub state : State
+  pub runs : Runs t (startState t) front state
+  pub none-again : NoneAgain t [] (startState t) front
+  pub there : action < length (t .actions)
+  pub out : inForce (t .situation) (actionAt (t .actions) action) ≡ false

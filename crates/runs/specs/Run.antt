@@ -1,4 +1,4 @@
--- What running a list answers: 1 to 8, then 13, then step by step 14, 15, 16, then 17; or 0 with the number of variables, and the end state in the buffer.
+-- What running a list answers: 1 to 8, then 13, then step by step 14, 20, 15, 16, then 17; or 0 with the number of variables, and the end state in the buffer.
 -- Assumes nothing.
 use Prim.Native.Nat.{ℕ, _+_}
 use mathlib.Core.Bool.{Bool, false, _||_}
@@ -9,7 +9,7 @@ use Rattle.plain.specs.Choose.{pick}
 use Rattle.answer.specs.Answers.{three, done, refusal}
 use Rattle.answer.specs.Allowing.{Allowing, Exactly}
 use Rattle.answer.specs.declared.Answer.{Answer}
-use Rattle.study.specs.Study.{Condition, Action, Task, Study, actionAt}
+use Rattle.study.specs.Study.{Condition, Action, Task, Study, inForce, actionAt}
 use Rattle.study.specs.Reading.{Said, says, refused, reading}
 use Rattle.plans.specs.Plans.{State, valueOf, after, startState}
 
@@ -55,7 +55,9 @@ unfoldable pub runOn : Study → List State → State → ℕ → List ℕ → R
 runOn t past s k [] = atGoal s (away s 0 (t .tasks))
 runOn t past s k (i ∷ rest) =
     pick (leb (length (t .actions)) i) (stops (refusal 14 k))
+    (pick (inForce (t .situation) (actionAt (t .actions) i))
     (stepped past s (actionAt (t .actions) i) k (barred s (actionAt (t .actions) i)) (runOn t (s ∷ past) (after s (actionAt (t .actions) i)) (k + 1) rest))
+    (stops (refusal 20 k)))
 
 -- a list run on what a file says, with room for an end state
 unfoldable pub ran : Said → ℕ → List ℕ → Ran

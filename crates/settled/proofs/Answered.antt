@@ -44,5 +44,7 @@ plan-answered file ranks before =
 pub seeded-answered : (file before : List ℕ) → Answers (SeededAllows file before)
 seeded-answered file = plan-answered file (seedRanks (reading file))
 
-pub write-answered : (variables actions conditions tasks : List ℕ) (seed : ℕ) (before : List ℕ) → Answers (WriteAllows variables actions conditions tasks seed before)
+pub write-answered :
+    (situation : ℕ) (variables actions conditions tasks : List ℕ) (seed : ℕ) (before : List ℕ)
+    → Answers (WriteAllows situation variables actions conditions tasks seed before)
 write-answered = write-answers

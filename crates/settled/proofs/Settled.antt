@@ -40,5 +40,7 @@ plan-settled file ranks before r r′ after after′ p q = file-plans-determined
 pub seeded-settled : (file before : List ℕ) → Settles (SeededAllows file before)
 seeded-settled file = plan-settled file (seedRanks (reading file))
 
-pub write-settled : (variables actions conditions tasks : List ℕ) (seed : ℕ) (before : List ℕ) → Settles (WriteAllows variables actions conditions tasks seed before)
+pub write-settled :
+    (situation : ℕ) (variables actions conditions tasks : List ℕ) (seed : ℕ) (before : List ℕ)
+    → Settles (WriteAllows situation variables actions conditions tasks seed before)
 write-settled = write-settles

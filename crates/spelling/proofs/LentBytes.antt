@@ -1,12 +1,13 @@
 -- Lent bytes from a place on: those of one entry and those behind it; and the conditions in them, two bytes each.
 -- Assumes nothing.
-use mathlib.Core.Path.{_≡_, refl}
+use mathlib.Core.Path.{_≡_, refl, ap}
 use mathlib.Core.List.{List, [], _∷_}
 use Prim.Native.Nat.{ℕ, zero, suc, _+_, _*_, _≤_}
 use native.Mathlib.Numerals.{add-one}
 use native.Mathlib.Omega.{arith}
 use lib.ListN.{length, getD, take, drop}
 use lib.Seq.{drop-cons, drop-nil}
+use Rattle.study.specs.Study.{Condition}
 use Rattle.spelling.specs.Lent.{conditionsIn, firstOf}
 
 module _ (bytes : List ℕ) where
@@ -29,6 +30,11 @@ module _ (bytes : List ℕ) where
     pub four-bytes : i + 4 ≤ length bytes → drop i bytes ≡ byte i ∷ byte (i + 1) ∷ byte (i + 2) ∷ byte (i + 3) ∷ drop (i + 4) bytes
     four-bytes h = rw (three-bytes (omega arith), byte-at (i + 3) (i + 4) (omega arith) h)
 
+    pub five-bytes :
+        i + 5 ≤ length bytes
+        → drop i bytes ≡ byte i ∷ byte (i + 1) ∷ byte (i + 2) ∷ byte (i + 3) ∷ byte (i + 4) ∷ drop (i + 5) bytes
+    five-bytes h = rw (four-bytes (omega arith), byte-at (i + 4) (i + 5) (omega arith) h)
+
 -- ---- conditions
 
 twice : (n : ℕ) → 2 * suc n ≡ suc (suc (2 * n))
@@ -47,3 +53,9 @@ first-conditions zero bytes h = refl
 first-conditions (suc n) [] h = absurd (omega arith)
 first-conditions (suc n) (v ∷ []) h = absurd (omega arith)
 first-conditions (suc n) (v ∷ q ∷ rest) h = rw (twice n, first-conditions n rest (omega arith))
+
+pub so-many-first : (n : ℕ) (conditions : List Condition) → length (firstOf n conditions) ≡ n
+unfolding firstOf
+so-many-first zero conditions = refl
+so-many-first (suc n) [] = ap suc (so-many-first n [])
+so-many-first (suc n) (c ∷ rest) = ap suc (so-many-first n rest)

@@ -1,8 +1,9 @@
 -- A file that was written is refused with 3 to 7 or not at all: each of its records is whole and of a known kind, and the end comes last.
 -- Assumes nothing.
-use mathlib.Core.Path.{_≡_, refl, sym, ap, subst}
-use mathlib.Core.Logic.{_⊎_, inl, inr}
+use mathlib.Core.Path.{_≡_, refl, ap, subst}
+use mathlib.Core.Logic.{_⊎_, inl, inr, _≢_}
 use mathlib.Core.Bool.{Bool, true, false, not, _&&_}
+use mathlib.Core.Option.{Option, none, some}
 use mathlib.Core.List.{List, [], _∷_, _++_, map, append-assoc}
 use Prim.Native.Nat.{ℕ, zero, suc, _+_, _≤_}
 use native.Mathlib.Omega.{arith}
@@ -11,51 +12,58 @@ use lib.ListN.{length, drop, length-append, length-drop}
 use borrow.Author.Tests.{ltb-true}
 use Rattle.plain.specs.Choose.{pick}
 use Rattle.plain.proofs.Tests.{picked}
-use Rattle.study.specs.Study.{Action, Study}
-use Rattle.study.specs.Reading.{Said, says, refused, Record, variable, action, condition, task, seed, end, Draft, blank, allowed, inRange, sets, above, lastAction, fault}
-use Rattle.study.specs.Reading.{Verdict, taken, unless, follow, readOn, reading}
+use Rattle.study.specs.Study.{Action, Study, always}
+use Rattle.study.specs.Reading.{Said, says, refused, Record, variable, action, condition, task, seed, end, times, present, Draft, blank, allowed, inRange, above, lastAction, fault}
+use Rattle.study.specs.Reading.{Verdict, firstRepeat, ended, taken, unless, follow, readOn, reading}
 use Rattle.lawful.specs.Lengths.{bytesOf}
 use Rattle.spelling.specs.Spelling.{kindOf, spelledRecord, spelled}
-use Rattle.spelling.specs.Lists.{Lists, conditionRecord, taskRecord, actionRecords, recordsOf, fileOf}
+use Rattle.spelling.specs.Lists.{Lists, conditionRecord, taskRecord, timesRecord, actionRecords, recordsOf, fileOf}
 use Rattle.spelling.proofs.Spelled.{some-bytes, spelled-length, rest-there, spelled-verdict}
 
 -- ---- the end comes last
 
 abbrev EndsLast : List Record → Type 0
 EndsLast [] = ⊥
-EndsLast (r ∷ rs) = ((kindOf r ≤ 5) × EndsLast rs) ⊎ ((kindOf r ≡ 6) × (rs ≡ []))
+EndsLast (r ∷ rs) = ((kindOf r ≢ 6) × EndsLast rs) ⊎ ((kindOf r ≡ 6) × (rs ≡ []))
 
-goes-on : (r : Record) (rs : List Record) → kindOf r ≤ 5 → EndsLast (r ∷ rs) → EndsLast rs
+goes-on : (r : Record) (rs : List Record) → kindOf r ≢ 6 → EndsLast (r ∷ rs) → EndsLast rs
 goes-on r rs h (inl e) = e .1
-goes-on r rs h (inr e) = absurd (omega arith)
+goes-on r rs h (inr e) = absurd (h (e .0))
 
 none-follows : (rs : List Record) → EndsLast (end ∷ rs) → rs ≡ []
-none-follows rs (inl e) = absurd (omega arith)
+none-follows rs (inl e) = absurd (e .0 refl)
 none-follows rs (inr e) = e .1
 
 others-first :
-    {A : Type 0} (f : A → Record) → ((x : A) → kindOf (f x) ≤ 5)
+    {A : Type 0} (f : A → Record) → ((x : A) → kindOf (f x) ≢ 6)
     → (xs : List A) (rs : List Record) → EndsLast rs → EndsLast (map f xs ++ rs)
 others-first f h [] rs e = e
 others-first f h (x ∷ xs) rs e = inl (h x, others-first f h xs rs e)
+
+-- .. or one that may not be written
+perhaps-first : (b : Bool) (r : Record) → kindOf r ≢ 6 → (rs : List Record) → EndsLast rs → EndsLast (pick b [] (r ∷ []) ++ rs)
+perhaps-first true r h rs e = e
+perhaps-first false r h rs e = inl (h, e)
 
 actions-first : (xs : List Action) (rs : List Record) → EndsLast rs → EndsLast (actionRecords xs ++ rs)
 unfolding actionRecords
 actions-first [] rs e = e
 actions-first (x ∷ xs) rs e =
     inl (
-      omega arith,
-      subst EndsLast (sym (append-assoc (map conditionRecord (x .conditions)) (actionRecords xs) rs))
-          (others-first conditionRecord (λ c. omega arith) (x .conditions) (actionRecords xs ++ rs) (actions-first xs rs e)),
+      (λ h. omega arith),
+      simp append-assoc
+          (others-first conditionRecord (λ c h. omega arith) (x .conditions) (timesRecord (x .situations) ++ (actionRecords xs ++ rs))
+          (perhaps-first (eqb (x .situations) always) (times (x .situations)) (λ h. omega arith) (actionRecords xs ++ rs) (actions-first xs rs e))),
     )
 
 lists-end-last : (l : Lists) → EndsLast (recordsOf l)
 unfolding recordsOf
 lists-end-last l =
-    others-first variable (λ n. omega arith) (l .variables) _
+    perhaps-first (eqb (l .situation) 0) (present (l .situation)) (λ h. omega arith) _
+    (others-first variable (λ n h. omega arith) (l .variables) _
     (actions-first (l .actions) _
-    (others-first taskRecord (λ t. omega arith) (l .tasks) _
-    (inl (omega arith, inr (refl, refl)))))
+    (others-first taskRecord (λ t h. omega arith) (l .tasks) _
+    (inl ((λ h. omega arith), inr (refl, refl))))))
 
 -- ---- what a record earns
 
@@ -63,9 +71,9 @@ abbrev pub From3To7 : Said → Type 0
 From3To7 (says s) = Unit {0}
 From3To7 (refused number place) = (3 ≤ number) × (number ≤ 7)
 
--- a fault is 0 or 4 to 7
+-- a fault is 0 or 4 to 6
 abbrev Fault : ℕ → Type 0
-Fault n = 1 ≤ n → (4 ≤ n) × (n ≤ 7)
+Fault n = 1 ≤ n → (4 ≤ n) × (n ≤ 6)
 
 one-of : (b : Bool) {x y : ℕ} → (b ≡ true → Fault x) → (b ≡ false → Fault y) → Fault (pick b x y)
 one-of = picked Fault
@@ -76,8 +84,7 @@ faults s (variable n) = one-of (leb 32 (length (s .counts))) (λ _ h. omega arit
 faults s (action v p q) =
     one-of (leb 256 (length (s .actions))) (λ _ h. omega arith)
     λ _. one-of (not (inRange s v p && inRange s v q)) (λ _ h. omega arith)
-    λ _. one-of (eqb p q) (λ _ h. omega arith)
-    λ _. one-of (sets (s .actions) v q) (λ _ h. omega arith) (λ _ h. omega arith)
+    λ _. one-of (eqb p q) (λ _ h. omega arith) (λ _ h. omega arith)
 faults s (condition v q) =
     one-of (not (inRange s v q)) (λ _ h. omega arith)
     λ _. one-of (eqb v (lastAction s .var)) (λ _ h. omega arith)
@@ -85,6 +92,8 @@ faults s (condition v q) =
 faults s (task v p q) = one-of (eqb v (length (s .tasks)) && (inRange s v p && inRange s v q)) (λ _ h. omega arith) (λ _ h. omega arith)
 faults s (seed n) = one-of (leb 1 n && leb n 2147483646) (λ _ h. omega arith) (λ _ h. omega arith)
 faults s end = λ h. omega arith
+faults s (times n) = one-of (eqb n always) (λ _ h. omega arith) (λ _ h. omega arith)
+faults s (present n) = one-of (leb n 7) (λ _. one-of (eqb n 0) (λ _ h. omega arith) (λ _ h. omega arith)) (λ _ h. omega arith)
 
 unless-fault : (n at : ℕ) (v : Verdict) (read : ℕ → Draft → Said) → Fault n → From3To7 (follow v read) → From3To7 (follow (unless n at v) read)
 unfolding unless
@@ -94,20 +103,26 @@ unless-fault (suc n) at v read h g = let f = h (omega arith) in omega arith
 -- ---- reading on where records are spelled
 
 module _ (file : List ℕ) where
-  taken-from-3-to-7 :
-      (d : Draft) (next : ℕ) (read : ℕ → Draft → Said) (r : Record) (rs : List Record) → drop next file ≡ spelled rs → EndsLast (r ∷ rs)
-      → (EndsLast rs → (d′ : Draft) → From3To7 (read next d′)) → From3To7 (follow (taken file d (kindOf r) next r) read)
-  unfolding taken spelled
-  taken-from-3-to-7 d next read (variable n) rs here ends on = on (goes-on (variable n) rs (omega arith) ends) _
-  taken-from-3-to-7 d next read (action v p q) rs here ends on = on (goes-on (action v p q) rs (omega arith) ends) _
-  taken-from-3-to-7 d next read (condition v q) rs here ends on = on (goes-on (condition v q) rs (omega arith) ends) _
-  taken-from-3-to-7 d next read (task v p q) rs here ends on = on (goes-on (task v p q) rs (omega arith) ends) _
-  taken-from-3-to-7 d next read (seed n) rs here ends on = on (goes-on (seed n) rs (omega arith) ends) _
-  taken-from-3-to-7 d next read end rs here ends on =
-      let none : drop next file ≡ [] = rw (none-follows rs ends) at here in
+  ended-from-3-to-7 : (d : Draft) (next : ℕ) (repeat : Option ℕ) → drop next file ≡ [] → From3To7 (ended file next d repeat)
+  ended-from-3-to-7 d next (some i) nothing = omega arith
+  ended-from-3-to-7 d next none nothing =
       picked From3To7 (ltb next (length file))
-      (λ more. absurd (omega (arith, ltb-true next (length file) more, length-drop next file, ap length none)))
+      (λ more. absurd (omega (arith, ltb-true next (length file) more, length-drop next file, ap length nothing)))
       (λ _. tt)
+
+  taken-from-3-to-7 :
+      (at : ℕ) (d : Draft) (next : ℕ) (read : ℕ → Draft → Said) (r : Record) (rs : List Record) → drop next file ≡ spelled rs → EndsLast (r ∷ rs)
+      → (EndsLast rs → (d′ : Draft) → From3To7 (read next d′)) → From3To7 (follow (taken file at d (kindOf r) next r) read)
+  unfolding taken spelled
+  taken-from-3-to-7 at d next read (variable n) rs here ends on = on (goes-on (variable n) rs (λ h. omega arith) ends) _
+  taken-from-3-to-7 at d next read (action v p q) rs here ends on = on (goes-on (action v p q) rs (λ h. omega arith) ends) _
+  taken-from-3-to-7 at d next read (condition v q) rs here ends on = on (goes-on (condition v q) rs (λ h. omega arith) ends) _
+  taken-from-3-to-7 at d next read (task v p q) rs here ends on = on (goes-on (task v p q) rs (λ h. omega arith) ends) _
+  taken-from-3-to-7 at d next read (seed n) rs here ends on = on (goes-on (seed n) rs (λ h. omega arith) ends) _
+  taken-from-3-to-7 at d next read end rs here ends on =
+      ended-from-3-to-7 d next (firstRepeat (d .study)) (rw (none-follows rs ends) at here)
+  taken-from-3-to-7 at d next read (times n) rs here ends on = on (goes-on (times n) rs (λ h. omega arith) ends) _
+  taken-from-3-to-7 at d next read (present n) rs here ends on = on (goes-on (present n) rs (λ h. omega arith) ends) _
 
   -- a look for each record is enough
   read-on-from-3-to-7 :
@@ -120,7 +135,7 @@ module _ (file : List ℕ) where
       rw (spelled-verdict file (spelled rs) at r here d)
       (picked (λ (v : Verdict). From3To7 (follow v (readOn n file))) (allowed d (kindOf r))
       (λ _. unless-fault (fault (d .study) r) at _ (readOn n file) (faults (d .study) r)
-      (taken-from-3-to-7 d (at + bytesOf r) (readOn n file) r rs there ends
+      (taken-from-3-to-7 at d (at + bytesOf r) (readOn n file) r rs there ends
       (λ e d′. read-on-from-3-to-7 rs n (at + bytesOf r) d′ there e (omega arith))))
       (λ _. omega arith))
 

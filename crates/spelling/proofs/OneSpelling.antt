@@ -53,7 +53,7 @@ seed-spelled a b c d hb hc hd =
 module _ (file : List ℕ) (bytes : Bytes file) where
   -- a record that is found is spelled there
   found-spelled :
-      (at kind : ℕ) → getD file at 0 ≡ kind → 1 ≤ kind → kind ≤ 6 → at + 1 + bodyLength kind ≤ length file
+      (at kind : ℕ) → getD file at 0 ≡ kind → 1 ≤ kind → kind ≤ 8 → at + 1 + bodyLength kind ≤ length file
       → drop at file ≡ spelledRecord (recordFrom file (at + 1) kind) ++ drop (at + 1 + bodyLength kind) file
   unfolding bodyLength bodyLengths decoded spelledRecord
   found-spelled at zero e low high whole = absurd (omega arith)
@@ -68,7 +68,9 @@ module _ (file : List ℕ) (bytes : Bytes file) where
       (seed-spelled (getD file (at + 1) 0) (getD file (at + 1 + 1) 0) (getD file (at + 1 + 2) 0) (getD file (at + 1 + 3) 0)
       (bytes _ (omega arith)) (bytes _ (omega arith)) (bytes _ (omega arith)))))
   found-spelled at (suc (suc (suc (suc (suc (suc zero)))))) e low high whole = rw (from-1 file at (omega arith), e, add-zero (at + 1))
-  found-spelled at (suc (suc (suc (suc (suc (suc (suc kind))))))) e low high whole = absurd (omega arith)
+  found-spelled at (suc (suc (suc (suc (suc (suc (suc zero))))))) e low high whole = rw (from-1 file at (omega arith), e, from-1 file (at + 1) whole)
+  found-spelled at (suc (suc (suc (suc (suc (suc (suc (suc zero)))))))) e low high whole = rw (from-1 file at (omega arith), e, from-1 file (at + 1) whole)
+  found-spelled at (suc (suc (suc (suc (suc (suc (suc (suc (suc kind))))))))) e low high whole = absurd (omega arith)
 
   spelled-along : SpelledAlong file (λ at. Unit {0})
   spelled-along at on kind start next there = (here, tt)

@@ -1,20 +1,23 @@
--- Reading what was written gives the lists back.
+-- Reading what was written gives the lists back; halfway through, what has been read is what stands before the place.
 -- Assumes nothing.
-use mathlib.Core.Path.{_≡_, refl, sym, ap, _∙_}
-use mathlib.Core.List.{List, [], _∷_}
+use mathlib.Core.Path.{_≡_, refl, sym, ap, _∙_, subst}
+use mathlib.Core.List.{List, [], _∷_, _++_}
 use Prim.Native.Nat.{ℕ, _+_}
 use native.Mathlib.Omega.{arith}
 use lib.ListN.{length, drop, length-drop}
 use Rattle.records.specs.declared.Found.the-variants.{There}
 use Rattle.records.proofs.Laws.{there-lies}
 use Rattle.study.specs.Study.{Study}
-use Rattle.study.specs.Reading.{says, Record, reading}
+use Rattle.study.specs.Reading.{says, Record, end, Draft, blank, onward, verdictAt, reading}
+use Rattle.study.proofs.Readings.{VerdictHas}
 use Rattle.lawful.specs.Lengths.{bytesOf}
+use Rattle.lawful.proofs.Lengths.{Met, blank-met, met-onward}
 use Rattle.spelling.specs.Spelling.{kindOf, spelled}
-use Rattle.spelling.specs.Lists.{Lists, recordsOf, listsOf, fileOf}
+use Rattle.spelling.specs.Lists.{Lists, actionRecords, recordsOf, errandsFrom, listsOf, fileOf}
 use Rattle.spelling.proofs.Spelled.{record-there, record-is, rest-there}
 use Rattle.spelling.proofs.Told.{same-records, same-lists}
-use Rattle.spelling.proofs.Rewritten.{SpelledAlong, rewritten}
+use Rattle.spelling.proofs.SoFar.{soFar, all-records}
+use Rattle.spelling.proofs.Rewritten.{spelled-append, RewrittenIfSaid, SpelledAlong, Between, verdict-rewritten, rewritten}
 
 -- what follows a place is records, spelled
 abbrev Follow : List ℕ → ℕ → Type 0
@@ -37,3 +40,35 @@ unfolding fileOf
 read-back l s e =
     same-lists (listsOf s) l
     (same-records (recordsOf (listsOf s)) (recordsOf l) (rewritten (fileOf l) (Follow (fileOf l)) (spelled-along (fileOf l)) (recordsOf l, refl) s e))
+
+-- ---- halfway through
+
+-- what has been read up to a place, with all that the way there tells
+pub record Retold (file : List ℕ) (at : ℕ) (d : Draft) : Type 0 where
+  pub met : Met at d
+  pub so-far : spelled (soFar d) ++ drop at file ≡ file
+
+pub nothing-retold : (file : List ℕ) → Retold file 0 blank
+unfolding spelled actionRecords errandsFrom
+nothing-retold file = record { met = blank-met; so-far = refl }
+
+-- one record more, where records follow
+pub retold-onward :
+    {file : List ℕ} {at next : ℕ} {d d′ : Draft} (rs : List Record) → drop at file ≡ spelled rs
+    → Retold file at d → verdictAt file at d ≡ onward next d′ → Retold file next d′
+retold-onward {file} {at} {next} {d} {d′} rs here r e = record {
+  met = met-onward file (r .met) e;
+  so-far =
+      subst (VerdictHas (RewrittenIfSaid file) (Between file (Follow file) (spelled-along file))) e
+      (verdict-rewritten file (Follow file) (spelled-along file) (r .met .sound) at (record { so-far = r .so-far; on = (rs, here) }))
+      .so-far;
+}
+
+-- where only the end is left, the lists have been read
+pub all-retold :
+    (l : Lists) {at : ℕ} {d : Draft} → Retold (fileOf l) at d → drop at (fileOf l) ≡ spelled (end ∷ []) → d .last ≡ 5 → listsOf (d .study) ≡ l
+unfolding fileOf
+all-retold l {at} {d} r here last =
+    same-lists (listsOf (d .study)) l
+    (same-records (recordsOf (listsOf (d .study))) (recordsOf l)
+    (rw (← all-records d last, spelled-append (soFar d) (end ∷ []), ← here) (r .so-far)))

@@ -1,6 +1,7 @@
 -- A file that loads, whose records as they are read are spelled as they stand, is the file that its study's lists stand for.
 -- Assumes nothing.
 use mathlib.Core.Path.{_≡_, refl, ap, _∙_, subst}
+use mathlib.Core.Option.{Option, none, some}
 use mathlib.Core.List.{List, [], _∷_, _++_, append-nil, append-assoc}
 use Prim.Native.Nat.{ℕ, zero, suc, _≤_}
 use lib.Dec.{ltb}
@@ -11,23 +12,23 @@ use Rattle.records.specs.Records.{recordAt}
 use Rattle.records.specs.declared.Found.{Found}
 use Rattle.records.specs.declared.Found.the-variants.{There, Unknown, Cut, Ended}
 use Rattle.study.specs.Study.{Study}
-use Rattle.study.specs.Reading.{Said, says, refused, Record, variable, action, condition, task, seed, end, recordFrom, Draft, tasksLeft, allowed, fault}
-use Rattle.study.specs.Reading.{Verdict, taken, unless, judged, verdictAt, reading}
+use Rattle.study.specs.Reading.{Said, says, refused, Record, variable, action, condition, task, seed, end, times, present, recordFrom, Draft, tasksLeft, allowed, fault}
+use Rattle.study.specs.Reading.{Verdict, firstRepeat, drafted, ended, taken, unless, judged, verdictAt, reading}
 use Rattle.study.proofs.Readings.{VerdictHas, verdict-has-both, reading-has}
 use Rattle.lawful.proofs.Order.{Follows, may-follow}
 use Rattle.lawful.proofs.Faults.{Faultless, faultless}
-use Rattle.lawful.proofs.Sound.{Sound, blank-sound, extended}
+use Rattle.lawful.proofs.Sound.{Sound, blank-sound}
 use Rattle.lawful.proofs.Loads.{LawfulIfSaid, verdict-sound}
 use Rattle.spelling.specs.Spelling.{spelledRecord, spelled}
 use Rattle.spelling.specs.Lists.{actionRecords, errandsFrom, listsOf, fileOf}
-use Rattle.spelling.proofs.SoFar.{soFar, InOrder, blank-in-order, More, variable-more, action-more, condition-more, task-more, seed-more, all-records}
+use Rattle.spelling.proofs.SoFar.{soFar, More, variable-more, action-more, condition-more, task-more, seed-more, times-more, present-more, all-records}
 
 pub spelled-append : (rs more : List Record) → spelled (rs ++ more) ≡ spelled rs ++ spelled more
 unfolding spelled
 spelled-append [] more = refl
 spelled-append (r ∷ rs) more = rw (spelled-append rs more, append-assoc)
 
-abbrev RewrittenIfSaid : List ℕ → Said → Type 0
+abbrev pub RewrittenIfSaid : List ℕ → Said → Type 0
 RewrittenIfSaid file (says s) = fileOf (listsOf s) ≡ file
 RewrittenIfSaid file (refused number place) = Unit {0}
 
@@ -39,13 +40,12 @@ SpelledAlong file Along =
 
 module _ (file : List ℕ) (Along : ℕ → Type 0) (along : SpelledAlong file Along) where
   -- the file is what has been read so far, spelled, and what follows
-  record Between (at : ℕ) (d : Draft) : Type 0 where
-    in-order : InOrder d
-    so-far : spelled (soFar d) ++ drop at file ≡ file
-    on : Along at
+  pub record Between (at : ℕ) (d : Draft) : Type 0 where
+    pub so-far : spelled (soFar d) ++ drop at file ≡ file
+    pub on : Along at
 
   module _ {d : Draft} (sound : Sound d) (at : ℕ) (between : Between at d) where
-    abbrev RewrittenVerdict : Verdict → Type 0
+    abbrev pub RewrittenVerdict : Verdict → Type 0
     RewrittenVerdict = VerdictHas (RewrittenIfSaid file) Between
 
     unless-rewritten : (n : ℕ) (v : Verdict) → (n ≡ 0 → RewrittenVerdict v) → RewrittenVerdict (unless n at v)
@@ -55,30 +55,37 @@ module _ (file : List ℕ) (Along : ℕ → Type 0) (along : SpelledAlong file A
 
     module _ (kind next : ℕ) (on : Along next) where
       -- one record more
-      onward : (r : Record) → drop at file ≡ spelledRecord r ++ drop next file → More sound (between .in-order) kind r → Between next (extended d kind r)
+      onward : (r : Record) → drop at file ≡ spelledRecord r ++ drop next file → More sound at kind r → Between next (drafted d at kind r)
       unfolding spelled
       onward r here more = record {
-        in-order = more .in-order;
         so-far =
-            ap (λ (rs : List Record). spelled rs ++ drop next file) (more .records)
+            ap (λ (rs : List Record). spelled rs ++ drop next file) more
             ∙ rw (spelled-append (soFar d) (r ∷ []), append-nil, append-assoc, ← here) (between .so-far);
         on = on;
       }
 
-      taken-rewritten :
-          (r : Record) → drop at file ≡ spelledRecord r ++ drop next file
-          → Follows (tasksLeft (d .study)) (d .last) kind r → Faultless (d .study) r → RewrittenVerdict (taken file d kind next r)
-      unfolding taken fileOf spelled
-      taken-rewritten (variable n) here f ok = onward (variable n) here (variable-more sound (between .in-order) kind n f ok)
-      taken-rewritten (action v p q) here f ok = onward (action v p q) here (action-more sound (between .in-order) kind v p q f ok)
-      taken-rewritten (condition v q) here f ok = onward (condition v q) here (condition-more sound (between .in-order) kind v q f ok)
-      taken-rewritten (task v p q) here f ok = onward (task v p q) here (task-more sound (between .in-order) kind v p q f ok)
-      taken-rewritten (seed n) here f ok = onward (seed n) here (seed-more sound (between .in-order) kind n f ok)
-      taken-rewritten end here last ok = picked (RewrittenIfSaid file) (ltb next (length file)) (λ _. tt) (λ nothing. whole (ltb-false next (length file) nothing))
+      ended-rewritten :
+          drop at file ≡ spelledRecord end ++ drop next file → d .last ≡ 5 → (repeat : Option ℕ) → RewrittenIfSaid file (ended file next d repeat)
+      unfolding fileOf spelled
+      ended-rewritten here last (some i) = tt
+      ended-rewritten here last none = picked (RewrittenIfSaid file) (ltb next (length file)) (λ _. tt) (λ nothing. whole (ltb-false next (length file) nothing))
         where
           whole : length file ≤ next → fileOf (listsOf (d .study)) ≡ file
           whole nothing =
               rw (← all-records d last, spelled-append (soFar d) (end ∷ []), ← drop-of-length-le file nothing, ← here) (between .so-far)
+
+      taken-rewritten :
+          (r : Record) → drop at file ≡ spelledRecord r ++ drop next file
+          → Follows (tasksLeft (d .study)) (d .last) kind r → Faultless (d .study) r → RewrittenVerdict (taken file at d kind next r)
+      unfolding taken
+      taken-rewritten (variable n) here f ok = onward (variable n) here (variable-more sound at kind n f ok)
+      taken-rewritten (action v p q) here f ok = onward (action v p q) here (action-more sound at kind v p q f ok)
+      taken-rewritten (condition v q) here f ok = onward (condition v q) here (condition-more sound at kind v q f ok)
+      taken-rewritten (task v p q) here f ok = onward (task v p q) here (task-more sound at kind v p q f ok)
+      taken-rewritten (seed n) here f ok = onward (seed n) here (seed-more sound at kind n f ok)
+      taken-rewritten end here last ok = ended-rewritten here last (firstRepeat (d .study))
+      taken-rewritten (times n) here f ok = onward (times n) here (times-more sound at kind n f ok)
+      taken-rewritten (present n) here f ok = onward (present n) here (present-more sound at kind n f ok)
 
     judged-rewritten : (f : Found) → recordAt file at ≡ f → RewrittenVerdict (judged file at d f)
     unfolding judged
@@ -93,7 +100,7 @@ module _ (file : List ℕ) (Along : ℕ → Type 0) (along : SpelledAlong file A
     judged-rewritten (Cut kind place) there = tt
     judged-rewritten (Ended place) there = tt
 
-    verdict-rewritten : RewrittenVerdict (verdictAt file at d)
+    pub verdict-rewritten : RewrittenVerdict (verdictAt file at d)
     unfolding verdictAt
     verdict-rewritten = judged-rewritten (recordAt file at) refl
 
@@ -105,7 +112,7 @@ module _ (file : List ℕ) (Along : ℕ → Type 0) (along : SpelledAlong file A
         (λ at d h.
         verdict-has-both LawfulIfSaid (RewrittenIfSaid file) (λ at. Sound) Between (verdictAt file at d)
         (verdict-sound file (h .0) at) (verdict-rewritten (h .0) at (h .1)))
-        (blank-sound, record { in-order = blank-in-order; so-far = refl; on = start })
+        (blank-sound, record { so-far = refl; on = start })
 
     pub rewritten : (s : Study) → reading file ≡ says s → fileOf (listsOf s) ≡ file
     rewritten s e = subst (RewrittenIfSaid file) e (reading-rewritten .1)

@@ -41,17 +41,17 @@ module _ (before : List ℕ) where
       (exactly (done (length file) 0) (file ++ drop (length file) before) (λ h. absurd (h refl)))
       (exactly (refusal 13 (length file)) before (λ _. refl))
 
-module _ (variables actions conditions tasks : List ℕ) (seed : ℕ) (before : List ℕ) where
-  asked : Asked before (WriteAllows variables actions conditions tasks seed before)
+module _ (situation : ℕ) (variables actions conditions tasks : List ℕ) (seed : ℕ) (before : List ℕ) where
+  asked : Asked before (WriteAllows situation variables actions conditions tasks seed before)
   asked =
-      let file = fileOf (lent variables actions conditions tasks seed) in
+      let file = fileOf (lent situation variables actions conditions tasks seed) in
       writes before (reading file) file
 
-  pub write-settles : Settles (WriteAllows variables actions conditions tasks seed before)
+  pub write-settles : Settles (WriteAllows situation variables actions conditions tasks seed before)
   write-settles = asked .settles
 
-  pub write-answers : Answers (WriteAllows variables actions conditions tasks seed before)
+  pub write-answers : Answers (WriteAllows situation variables actions conditions tasks seed before)
   write-answers = asked .answers
 
-  pub write-unaltered : RefusalAltersNothing (WriteAllows variables actions conditions tasks seed before) before
+  pub write-unaltered : RefusalAltersNothing (WriteAllows situation variables actions conditions tasks seed before) before
   write-unaltered = asked .unaltered

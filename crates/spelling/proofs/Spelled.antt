@@ -11,7 +11,7 @@ use Rattle.plain.specs.Choose.{pick}
 use Rattle.records.specs.Records.{bodyLength, bodyLengths, bodied, recordAt}
 use Rattle.records.specs.declared.Found.the-variants.{There}
 use Rattle.records.proofs.Laws.{record-of-kind}
-use Rattle.study.specs.Reading.{Record, variable, action, condition, task, seed, end, decoded, recordFrom, refused}
+use Rattle.study.specs.Reading.{Record, variable, action, condition, task, seed, end, times, present, decoded, recordFrom, refused}
 use Rattle.study.specs.Reading.{Draft, allowed, fault, settled, taken, unless, judged, verdictAt}
 use Rattle.study.proofs.Verdicts.{verdict-by}
 use Rattle.lawful.specs.Lengths.{bytesOf}
@@ -25,6 +25,8 @@ spelled-length (condition v q) = refl
 spelled-length (task v p q) = refl
 spelled-length (seed n) = refl
 spelled-length end = refl
+spelled-length (times n) = refl
+spelled-length (present n) = refl
 
 -- its kind comes first
 spelled-kind : (r : Record) (rest : List ℕ) → getD (spelledRecord r ++ rest) 0 0 ≡ kindOf r
@@ -35,10 +37,12 @@ spelled-kind (condition v q) rest = refl
 spelled-kind (task v p q) rest = refl
 spelled-kind (seed n) rest = refl
 spelled-kind end rest = refl
+spelled-kind (times n) rest = refl
+spelled-kind (present n) rest = refl
 
 record Kind (r : Record) : Type 0 where
   low : 1 ≤ kindOf r
-  high : kindOf r ≤ 6
+  high : kindOf r ≤ 8
   bytes : 1 + bodyLength (kindOf r) ≡ bytesOf r
 
 kind-of : (r : Record) → Kind r
@@ -49,6 +53,8 @@ kind-of (condition v q) = record { low = omega arith; high = omega arith; bytes 
 kind-of (task v p q) = record { low = omega arith; high = omega arith; bytes = refl }
 kind-of (seed n) = record { low = omega arith; high = omega arith; bytes = refl }
 kind-of end = record { low = omega arith; high = omega arith; bytes = refl }
+kind-of (times n) = record { low = omega arith; high = omega arith; bytes = refl }
+kind-of (present n) = record { low = omega arith; high = omega arith; bytes = refl }
 
 pub some-bytes : (r : Record) → 1 ≤ bytesOf r
 some-bytes r = omega (arith, kind-of r .bytes)
@@ -68,6 +74,8 @@ spelled-decoded (condition v q) rest = refl
 spelled-decoded (task v p q) rest = refl
 spelled-decoded (seed n) rest = ap seed (four-bytes n)
 spelled-decoded end rest = refl
+spelled-decoded (times n) rest = refl
+spelled-decoded (present n) rest = refl
 
 module _ (file rest : List ℕ) (at : ℕ) (r : Record) (here : drop at file ≡ spelledRecord r ++ rest) where
   pub rest-inside : at + bytesOf r ≤ length file
@@ -98,6 +106,6 @@ module _ (file rest : List ℕ) (at : ℕ) (r : Record) (here : drop at file ≡
   pub spelled-verdict :
       (d : Draft)
       → verdictAt file at d
-      ≡ pick (allowed d (kindOf r)) (unless (fault (d .study) r) at (taken file d (kindOf r) (at + bytesOf r) r)) (settled (refused 3 at))
+      ≡ pick (allowed d (kindOf r)) (unless (fault (d .study) r) at (taken file at d (kindOf r) (at + bytesOf r) r)) (settled (refused 3 at))
   unfolding judged
   spelled-verdict d = verdict-by file at d record-there ∙ rw record-is

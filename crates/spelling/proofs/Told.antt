@@ -2,16 +2,21 @@
 -- Assumes nothing.
 use mathlib.Core.Path.{_≡_, refl, sym, ap, _∙_}
 use mathlib.Core.Logic.{_≢_}
+use mathlib.Core.Bool.{Bool, true, false}
 use mathlib.Core.List.{List, [], _∷_, _++_, map, append-assoc}
 use Prim.Native.Nat.{ℕ, _+_, _≤_}
 use native.Mathlib.Omega.{arith}
+use lib.Dec.{eqb}
 use lib.ListN.{drop}
+use borrow.Author.Tests.{eqb-true}
+use Rattle.plain.specs.Choose.{pick}
+use Rattle.plain.proofs.Tests.{picked}
 use Rattle.records.specs.declared.Found.the-variants.{There}
-use Rattle.study.specs.Study.{Condition, Action}
-use Rattle.study.specs.Reading.{Record, variable, seed, end, recordFrom}
+use Rattle.study.specs.Study.{Condition, Action, always}
+use Rattle.study.specs.Reading.{Record, variable, seed, end, times, present, recordFrom}
 use Rattle.lawful.specs.Lengths.{bytesOf}
 use Rattle.spelling.specs.Spelling.{kindOf, spelled}
-use Rattle.spelling.specs.Lists.{Errand, Lists, conditionRecord, taskRecord, actionRecords, recordsOf}
+use Rattle.spelling.specs.Lists.{Errand, Lists, conditionRecord, taskRecord, timesRecord, actionRecords, recordsOf}
 use Rattle.spelling.proofs.Spelled.{some-bytes, record-there, record-is, rest-there, rest-inside}
 
 -- ---- bytes
@@ -65,46 +70,88 @@ same-errand e f h =
     let goal : e .goal ≡ f .goal = cc in
     λ i. record { var = var i; start = start i; goal = goal i }
 
--- what comes behind the variables is no variable, behind the actions no action and no condition, behind the tasks no task
-behind-tasks : (ts : List Errand) (n : ℕ) → 4 ≤ first (map taskRecord ts ++ (seed n ∷ end ∷ []))
-behind-tasks [] n = omega arith
-behind-tasks (t ∷ ts) n = omega arith
+-- a record that is there unless its number is one that is not written, and others behind it
+module _ (f : ℕ → Record) (kind unwritten : ℕ) (is : (n : ℕ) → kindOf (f n) ≡ kind) (same : (m n : ℕ) → f m ≡ f n → m ≡ n) where
+  abbrev written : ℕ → List Record
+  written n = pick (eqb n unwritten) [] (f n ∷ [])
 
-behind-actions :
-    (xs : List Action) (rs : List Record) → 4 ≤ first rs
-    → (first (actionRecords xs ++ rs) ≢ 1) × (first (actionRecords xs ++ rs) ≢ 3)
+  same-written : (m n : ℕ) (rs ts : List Record) → first rs ≢ kind → first ts ≢ kind → written m ++ rs ≡ written n ++ ts → (m ≡ n) × (rs ≡ ts)
+  same-written m n rs ts h g = go (eqb m unwritten) (eqb n unwritten) refl refl
+    where
+      go :
+          (a b : Bool) → eqb m unwritten ≡ a → eqb n unwritten ≡ b
+          → pick a [] (f m ∷ []) ++ rs ≡ pick b [] (f n ∷ []) ++ ts → (m ≡ n) × (rs ≡ ts)
+      go true true p q e = (eqb-true m unwritten p ∙ sym (eqb-true n unwritten q), e)
+      go true false p q e = absurd (h (ap first e ∙ is n))
+      go false true p q e = absurd (g (ap first (sym e) ∙ is m))
+      go false false p q e =
+          let head : f m ≡ f n = cc in
+          let tail : rs ≡ ts = cc in
+          (same m n head, tail)
+
+-- what comes behind the tasks is no task, behind the actions none of theirs, behind an action's conditions no condition, behind the situation no situation
+record BehindTasks (rs : List Record) : Type 0 where
+  low : 4 ≤ first rs
+  high : first rs ≤ 5
+
+record BehindAction (rs : List Record) : Type 0 where
+  low : 2 ≤ first rs
+  high : first rs ≤ 5
+  no-condition : first rs ≢ 3
+
+behind-tasks : (ts : List Errand) (n : ℕ) → BehindTasks (map taskRecord ts ++ (seed n ∷ end ∷ []))
+behind-tasks [] n = record { low = omega arith; high = omega arith }
+behind-tasks (t ∷ ts) n = record { low = omega arith; high = omega arith }
+
+behind-action : (xs : List Action) {rs : List Record} → BehindTasks rs → BehindAction (actionRecords xs ++ rs)
 unfolding actionRecords
-behind-actions [] rs h = (λ e. omega arith, λ e. omega arith)
-behind-actions (x ∷ xs) rs h = (λ e. omega arith, λ e. omega arith)
+behind-action [] h = record { low = omega (arith, h .low); high = h .high; no-condition = λ e. omega (arith, h .low) }
+behind-action (x ∷ xs) h = record { low = omega arith; high = omega arith; no-condition = λ e. omega arith }
+
+behind-conditions : (n : ℕ) {rs : List Record} → BehindAction rs → first (timesRecord n ++ rs) ≢ 3
+behind-conditions n {rs} h = picked (λ (r : List Record). first (r ++ rs) ≢ 3) (eqb n always) (λ _. h .no-condition) (λ _ e. omega arith)
+
+behind-situation : (ns : List ℕ) {rs : List Record} → BehindAction rs → first (map variable ns ++ rs) ≢ 8
+behind-situation [] h = λ e. omega (arith, h .high)
+behind-situation (n ∷ ns) h = λ e. omega arith
 
 same-actions :
-    (xs ys : List Action) (rs ts : List Record) → 4 ≤ first rs → 4 ≤ first ts
+    (xs ys : List Action) (rs ts : List Record) → BehindTasks rs → BehindTasks ts
     → actionRecords xs ++ rs ≡ actionRecords ys ++ ts → (xs ≡ ys) × (rs ≡ ts)
 unfolding actionRecords
 same-actions [] [] rs ts h g e = (refl, e)
-same-actions [] (y ∷ ys) rs ts h g e = absurd (omega (arith, ap first e))
-same-actions (x ∷ xs) [] rs ts h g e = absurd (omega (arith, ap first e))
+same-actions [] (y ∷ ys) rs ts h g e = absurd (omega (arith, ap first e, h .low))
+same-actions (x ∷ xs) [] rs ts h g e = absurd (omega (arith, ap first e, g .low))
 same-actions (x ∷ xs) (y ∷ ys) rs ts h g e =
     let var : x .var ≡ y .var = cc in
     let pre : x .pre ≡ y .pre = cc in
     let post : x .post ≡ y .post = cc in
-    let rest : map conditionRecord (x .conditions) ++ actionRecords xs ++ rs ≡ map conditionRecord (y .conditions) ++ actionRecords ys ++ ts = cc in
+    let rest : (map conditionRecord (x .conditions) ++ (timesRecord (x .situations) ++ actionRecords xs)) ++ rs
+    ≡ (map conditionRecord (y .conditions) ++ (timesRecord (y .situations) ++ actionRecords ys)) ++ ts = cc in
     let (conditions, on) =
-    same-run conditionRecord 3 (λ c. refl) same-condition (x .conditions) (y .conditions) (actionRecords xs ++ rs) (actionRecords ys ++ ts)
-    (behind-actions xs rs h .1) (behind-actions ys ts g .1) (simp append-assoc at rest) in
-    let (more, last) = same-actions xs ys rs ts h g on in
-    ((λ i. record { var = var i; pre = pre i; post = post i; conditions = conditions i } ∷ more i), last)
+    same-run conditionRecord 3 (λ c. refl) same-condition (x .conditions) (y .conditions)
+    (timesRecord (x .situations) ++ (actionRecords xs ++ rs)) (timesRecord (y .situations) ++ (actionRecords ys ++ ts))
+    (behind-conditions (x .situations) (behind-action xs h)) (behind-conditions (y .situations) (behind-action ys g)) (simp append-assoc at rest) in
+    let (situations, on′) =
+    same-written times 7 always (λ n. refl) (λ m n h. cc) (x .situations) (y .situations) (actionRecords xs ++ rs) (actionRecords ys ++ ts)
+    (λ e. omega (arith, behind-action xs h .high)) (λ e. omega (arith, behind-action ys g .high)) on in
+    let (more, last) = same-actions xs ys rs ts h g on′ in
+    ((λ i. record { var = var i; pre = pre i; post = post i; conditions = conditions i; situations = situations i } ∷ more i), last)
 
 pub same-lists : (l m : Lists) → recordsOf l ≡ recordsOf m → l ≡ m
 unfolding recordsOf
 same-lists l m e =
-    let (variables, on) =
+    let l-behind = behind-action (l .actions) (behind-tasks (l .tasks) (l .seed)) in
+    let m-behind = behind-action (m .actions) (behind-tasks (m .tasks) (m .seed)) in
+    let (situation, on) =
+    same-written present 8 0 (λ n. refl) (λ m n h. cc) (l .situation) (m .situation) _ _
+    (behind-situation (l .variables) l-behind) (behind-situation (m .variables) m-behind) e in
+    let (variables, on′) =
     same-run variable 1 (λ n. refl) (λ x y h. cc) (l .variables) (m .variables) _ _
-    (behind-actions (l .actions) _ (behind-tasks (l .tasks) (l .seed)) .0)
-    (behind-actions (m .actions) _ (behind-tasks (m .tasks) (m .seed)) .0) e in
-    let (actions, on′) =
-    same-actions (l .actions) (m .actions) _ _ (behind-tasks (l .tasks) (l .seed)) (behind-tasks (m .tasks) (m .seed)) on in
-    let (tasks, on″) =
-    same-run taskRecord 4 (λ t. refl) same-errand (l .tasks) (m .tasks) _ _ (λ e. omega arith) (λ e. omega arith) on′ in
+    (λ e. omega (arith, l-behind .low)) (λ e. omega (arith, m-behind .low)) on in
+    let (actions, on″) =
+    same-actions (l .actions) (m .actions) _ _ (behind-tasks (l .tasks) (l .seed)) (behind-tasks (m .tasks) (m .seed)) on′ in
+    let (tasks, on‴) =
+    same-run taskRecord 4 (λ t. refl) same-errand (l .tasks) (m .tasks) _ _ (λ e. omega arith) (λ e. omega arith) on″ in
     let number : l .seed ≡ m .seed = cc in
-    λ i. record { variables = variables i; actions = actions i; tasks = tasks i; seed = number i }
+    λ i. record { situation = situation i; variables = variables i; actions = actions i; tasks = tasks i; seed = number i }

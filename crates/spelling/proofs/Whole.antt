@@ -74,26 +74,27 @@ firsts-lent (suc n) (c ∷ rest) first more =
     (omega arith, (first .0, all))
 
 record WholeActions (actions : List ℕ) (cs : List Condition) : Type 0 where
-  whole : length actions ≡ 4 * length (actionsIn actions cs)
+  whole : length actions ≡ 5 * length (actionsIn actions cs)
   taken : announced actions ≡ length cs
   each-lent : Each LentCondition cs
 
-four-each : (actions : List ℕ) (cs : List Condition) → Each LentAction (actionsIn actions cs) → WholeActions actions cs
+five-each : (actions : List ℕ) (cs : List Condition) → Each LentAction (actionsIn actions cs) → WholeActions actions cs
 unfolding actionsIn left announced
-four-each [] [] h = record { whole = refl; taken = refl; each-lent = tt }
-four-each [] (c ∷ cs) h = absurd (h .0 .0 refl)
-four-each (v ∷ []) cs h = absurd (h .0 .0 refl)
-four-each (v ∷ p ∷ []) cs h = absurd (h .0 .0 refl)
-four-each (v ∷ p ∷ q ∷ []) cs h = absurd (h .0 .0 refl)
-four-each (v ∷ p ∷ q ∷ n ∷ rest) cs (a, more) =
-    let w = four-each rest (drop n cs) more in
+five-each [] [] h = record { whole = refl; taken = refl; each-lent = tt }
+five-each [] (c ∷ cs) h = absurd (h .0 .0 refl)
+five-each (v ∷ []) cs h = absurd (h .0 .0 refl)
+five-each (v ∷ p ∷ []) cs h = absurd (h .0 .0 refl)
+five-each (v ∷ p ∷ q ∷ []) cs h = absurd (h .0 .0 refl)
+five-each (v ∷ p ∷ q ∷ s ∷ []) cs h = absurd (h .0 .0 refl)
+five-each (v ∷ p ∷ q ∷ s ∷ n ∷ rest) cs (a, more) =
+    let w = five-each rest (drop n cs) more in
     let (few, all) = firsts-lent n cs (a .1) (w .each-lent) in
     record { whole = omega (arith, w .whole); taken = omega (arith, w .taken, length-drop n cs); each-lent = all }
 
 -- ---- the theorem
 
 pub record Whole (actions conditions tasks : List ℕ) : Type 0 where
-  pub actions-whole : length actions % 4 ≡ 0
+  pub actions-whole : length actions % 5 ≡ 0
   pub conditions-whole : length conditions % 2 ≡ 0
   pub conditions-taken : length conditions ≡ 2 * announced actions
   pub tasks-whole : length tasks % 3 ≡ 0
@@ -101,16 +102,16 @@ pub record Whole (actions conditions tasks : List ℕ) : Type 0 where
   pub tasks-lent : Each LentErrand (errandsIn tasks)
 
 pub lent-whole :
-    (variables actions conditions tasks : List ℕ) (seed : ℕ) (s : Study)
-    → reading (fileOf (lent variables actions conditions tasks seed)) ≡ says s → Whole actions conditions tasks
-lent-whole variables actions conditions tasks seed s e =
-    let lists = read-back (lent variables actions conditions tasks seed) s e in
+    (situation : ℕ) (variables actions conditions tasks : List ℕ) (seed : ℕ) (s : Study)
+    → reading (fileOf (lent situation variables actions conditions tasks seed)) ≡ says s → Whole actions conditions tasks
+lent-whole situation variables actions conditions tasks seed s e =
+    let lists = read-back (lent situation variables actions conditions tasks seed) s e in
     let lawful = loads-lawful _ s e in
     let these : Each LentAction (actionsIn actions (conditionsIn conditions)) =
     subst (λ (l : Lists). Each LentAction (l .actions)) lists (lawful-actions-lent s lawful) in
     let those : Each LentErrand (errandsIn tasks) =
     subst (λ (l : Lists). Each LentErrand (l .tasks)) lists (errands-lent 0 (s .tasks) (omega (arith, lawful .a-task-each, lawful .few-variables))) in
-    let w = four-each actions (conditionsIn conditions) these in
+    let w = five-each actions (conditionsIn conditions) these in
     let c = two-each conditions (w .each-lent) in
     record {
       actions-whole = omega (arith, w .whole);

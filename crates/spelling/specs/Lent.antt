@@ -1,9 +1,9 @@
--- The lists that lent bytes stand for: a byte for each variable; four for each action, the last of them how many conditions it takes; two for each condition; three for each task. No input stands for none: an entry that is cut short, and a condition that is announced and not lent, has 255 for each of its numbers; conditions that no action takes are those of one more action, whose numbers are 255. No record with such a number is allowed, so a slip shows as a refusal.
+-- The lists that lent bytes stand for: a byte for each variable; five for each action, the fourth its situations, the last how many conditions it takes; two for each condition; three for each task. No input stands for none: an entry that is cut short, and a condition that is announced and not lent, has 255 for each of its numbers; conditions that no action takes are those of one more action, whose numbers are 255. No record with such a number is allowed, so a slip shows as a refusal.
 -- Assumes nothing.
 use Prim.Native.Nat.{ℕ, zero, suc, _+_}
 use mathlib.Core.List.{List, [], _∷_}
 use lib.ListN.{drop}
-use Rattle.study.specs.Study.{Condition, Action}
+use Rattle.study.specs.Study.{Condition, Action, always}
 use Rattle.spelling.specs.Lists.{Errand, Lists}
 
 -- what stands for a number that is not lent
@@ -18,7 +18,7 @@ unlentErrand = record { var = unlent; start = unlent; goal = unlent }
 
 -- an action that is not lent whole takes all the conditions that are left
 abbrev pub unlentAction : List Condition → Action
-unlentAction conditions = record { var = unlent; pre = unlent; post = unlent; conditions = conditions }
+unlentAction conditions = record { var = unlent; pre = unlent; post = unlent; conditions = conditions; situations = always }
 
 unfoldable pub conditionsIn : List ℕ → List Condition
 conditionsIn [] = []
@@ -41,8 +41,9 @@ actionsIn [] conditions = left conditions
 actionsIn (v ∷ []) conditions = unlentAction conditions ∷ []
 actionsIn (v ∷ p ∷ []) conditions = unlentAction conditions ∷ []
 actionsIn (v ∷ p ∷ q ∷ []) conditions = unlentAction conditions ∷ []
-actionsIn (v ∷ p ∷ q ∷ n ∷ rest) conditions =
-    record { var = v; pre = p; post = q; conditions = firstOf n conditions } ∷ actionsIn rest (drop n conditions)
+actionsIn (v ∷ p ∷ q ∷ s ∷ []) conditions = unlentAction conditions ∷ []
+actionsIn (v ∷ p ∷ q ∷ s ∷ n ∷ rest) conditions =
+    record { var = v; pre = p; post = q; conditions = firstOf n conditions; situations = s } ∷ actionsIn rest (drop n conditions)
 
 -- how many conditions the actions take
 unfoldable pub announced : List ℕ → ℕ
@@ -50,7 +51,8 @@ announced [] = 0
 announced (v ∷ []) = 0
 announced (v ∷ p ∷ []) = 0
 announced (v ∷ p ∷ q ∷ []) = 0
-announced (v ∷ p ∷ q ∷ n ∷ rest) = n + announced rest
+announced (v ∷ p ∷ q ∷ s ∷ []) = 0
+announced (v ∷ p ∷ q ∷ s ∷ n ∷ rest) = n + announced rest
 
 unfoldable pub errandsIn : List ℕ → List Errand
 errandsIn [] = []
@@ -58,6 +60,6 @@ errandsIn (v ∷ []) = unlentErrand ∷ []
 errandsIn (v ∷ p ∷ []) = unlentErrand ∷ []
 errandsIn (v ∷ p ∷ q ∷ rest) = record { var = v; start = p; goal = q } ∷ errandsIn rest
 
-abbrev pub lent : (variables actions conditions tasks : List ℕ) → ℕ → Lists
-lent variables actions conditions tasks seed =
-    record { variables = variables; actions = actionsIn actions (conditionsIn conditions); tasks = errandsIn tasks; seed = seed }
+abbrev pub lent : ℕ → (variables actions conditions tasks : List ℕ) → ℕ → Lists
+lent situation variables actions conditions tasks seed =
+    record { situation = situation; variables = variables; actions = actionsIn actions (conditionsIn conditions); tasks = errandsIn tasks; seed = seed }

@@ -23,6 +23,6 @@ abbrev pub Writes : Said → List ℕ → List ℕ → Allowing
 Writes (refused number place) file before = Exactly (refusal number place) before
 Writes (says study) file before = WritesFile file before
 
-abbrev pub WriteAllows : (variables actions conditions tasks : List ℕ) → ℕ → List ℕ → Allowing
-WriteAllows variables actions conditions tasks seed before =
-    Writes (reading (fileOf (lent variables actions conditions tasks seed))) (fileOf (lent variables actions conditions tasks seed)) before
+abbrev pub WriteAllows : ℕ → (variables actions conditions tasks : List ℕ) → ℕ → List ℕ → Allowing
+WriteAllows situation variables actions conditions tasks seed before =
+    Writes (reading (fileOf (lent situation variables actions conditions tasks seed))) (fileOf (lent situation variables actions conditions tasks seed)) before

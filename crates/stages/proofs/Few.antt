@@ -1,6 +1,5 @@
 -- Few actions: what comes directly before each by rank is what comes before it, so what is taken by rank is taken greedily.
 -- Assumes nothing.
-use mathlib.Core.Path.{_≡_}
 use mathlib.Core.List.{List}
 use Prim.Native.Nat.{ℕ, _+_, _≤_, _<_}
 use native.Mathlib.Omega.{arith}
@@ -27,7 +26,7 @@ module _
     pub walking-orderable : Orderable file (length ranks) (acts .vars) (acts .pres) (acts .places) (acts .manys) starts (acts .setters) steps t
     walking-orderable = record {
       wishes = walking-wishes walking;
-      names = λ i h. walking .actions .action i h .found;
+      names = walking .setters;
       starts = rw (← walking .variables) (walking .tells-starts);
       rowed = walking-rowed walking;
     }

@@ -29,7 +29,7 @@ rowed-walks e rowed v h = let r = rowed v (rw e h) in (r .0, r .1 .0)
 -- no more walk actions than 256
 pub few-in-all : {t : Study} {list : List ℕ} → Lawful t → Members t list → length list ≤ 256
 few-in-all {t} {list} lawful members =
-    let few = few-images (λ x. x) (length (t .actions)) list (members .once) (λ x y h g e. e) (λ x h. on-walk-usable (members .only x h)) in
+    let few = few-images (λ x. x) (length (t .actions)) list (members .once) (λ x y h g e. e) (λ x h. on-walk-usable (members .only x h) .there) in
     omega (arith, few, lawful .few-actions)
 
 module _

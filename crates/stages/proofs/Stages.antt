@@ -40,7 +40,14 @@ pub known-given :
     {file : List ℕ} (ranks : List ℕ) {n a x : ℕ} {acts : ActionTables} {starts goals : List ℕ} {t : Study}
     → Known file n a x acts starts goals t → tested ranks a ≡ Fine → Given file ranks n a acts starts goals t
 known-given ranks known ranked =
-    record { lawful = known .lawful; variables = known .variables; actions = known .actions; tasks = known .tasks; ranked = ranked }
+    record {
+      lawful = known .lawful;
+      variables = known .variables;
+      actions = known .actions;
+      setters = known .setters;
+      tasks = known .tasks;
+      ranked = ranked;
+    }
 
 -- a list that is no rank list is refused by 9
 pub not-ranked :
@@ -58,7 +65,7 @@ module _
     {file ranks : List ℕ} {n a : ℕ} {acts : ActionTables} {starts goals : List ℕ} {t : Study}
     (given : Given file ranks n a acts starts goals t)
   where
-    pub given-moves : Moves a (acts .setters) (acts .vars) (acts .pres) (acts .posts) t
+    pub given-moves : Moves a (acts .setters) (acts .vars) (acts .pres) (acts .posts) (acts .outs) t
     given-moves =
         record {
           lawful = given .lawful;
@@ -66,7 +73,8 @@ module _
           tells-var = λ i h. given .actions .action i h .var;
           tells-pre = λ i h. given .actions .action i h .pre;
           tells-post = λ i h. given .actions .action i h .post;
-          names = λ i h. given .actions .action i h .found;
+          tells-force = λ i h. given .actions .action i h .force;
+          names = given .setters;
         }
 
     pub given-ranked : tested ranks (length (t .actions)) ≡ Fine
@@ -81,7 +89,7 @@ module _
     -- what tracing into an empty table ensures
     pub given-traced :
         {Ensured : Type 0}
-        → (Moves a (acts .setters) (acts .vars) (acts .pres) (acts .posts) t → n ≡ length (t .tasks)
+        → (Moves a (acts .setters) (acts .vars) (acts .pres) (acts .posts) (acts .outs) t → n ≡ length (t .tasks)
         → Tells startOf n starts t → Tells goalOf n goals t → ((v : ℕ) → v < 32 → EmptyRow v (replicate 512 0)) → Ensured)
         → Ensured
     given-traced ensures = ensures given-moves (given .variables) given-starts given-goals (λ v h x k. all-zeros 512 (16 * v + x))
@@ -101,6 +109,7 @@ module _
           lawful = given .lawful;
           variables = given .variables;
           actions = rw as-many-ranks (given .actions);
+          setters = rw as-many-ranks (given .setters);
           tells-starts = given-starts;
           ranked = given-ranked;
           rowed = rowed;

@@ -8,7 +8,7 @@ use Rattle.ranking.specs.Ranking.{tested}
 use Rattle.ranking.specs.declared.Tested.the-variants.{Fine}
 use Rattle.study.specs.Study.{Study}
 use Rattle.lawful.specs.Lawful.{Lawful}
-use Rattle.tables.specs.Tables.{ActionTables, HoldsActions, HoldsTasks}
+use Rattle.tables.specs.Tables.{ActionTables, HoldsActions, NamesSetters, HoldsTasks}
 use Rattle.tables.specs.Rows.{Row, startColumn, goalColumn, seen}
 use Rattle.walks.specs.Walks.{Walks, Met, startOf}
 use Rattle.tracing.specs.Facts.{Tells}
@@ -19,7 +19,8 @@ use Rattle.taking.specs.Taking.{TakenGreedily}
 pub record Known (file : List ℕ) (n a x : ℕ) (acts : ActionTables) (starts goals : List ℕ) (t : Study) : Type 0 where
   pub lawful : Lawful t
   pub variables : n ≡ length (t .tasks)
-  pub actions : HoldsActions file a acts (t .actions)
+  pub actions : HoldsActions file (t .situation) a acts (t .actions)
+  pub setters : NamesSetters (t .situation) a (acts .setters) (t .actions)
   pub tasks : HoldsTasks n starts goals (t .tasks)
   pub seed : x ≡ t .seed
 
@@ -27,7 +28,8 @@ pub record Known (file : List ℕ) (n a x : ℕ) (acts : ActionTables) (starts g
 pub record Given (file ranks : List ℕ) (n a : ℕ) (acts : ActionTables) (starts goals : List ℕ) (t : Study) : Type 0 where
   pub lawful : Lawful t
   pub variables : n ≡ length (t .tasks)
-  pub actions : HoldsActions file a acts (t .actions)
+  pub actions : HoldsActions file (t .situation) a acts (t .actions)
+  pub setters : NamesSetters (t .situation) a (acts .setters) (t .actions)
   pub tasks : HoldsTasks n starts goals (t .tasks)
   pub ranked : tested ranks a ≡ Fine
 
@@ -35,7 +37,8 @@ pub record Given (file ranks : List ℕ) (n a : ℕ) (acts : ActionTables) (star
 pub record Walking (file ranks : List ℕ) (n total : ℕ) (acts : ActionTables) (starts steps : List ℕ) (t : Study) : Type 0 where
   pub lawful : Lawful t
   pub variables : n ≡ length (t .tasks)
-  pub actions : HoldsActions file (length ranks) acts (t .actions)
+  pub actions : HoldsActions file (t .situation) (length ranks) acts (t .actions)
+  pub setters : NamesSetters (t .situation) (length ranks) (acts .setters) (t .actions)
   pub tells-starts : Tells startOf n starts t
   pub ranked : tested ranks (length (t .actions)) ≡ Fine
   pub rowed : Rowed t n steps

@@ -10,11 +10,11 @@ use lib.ListN.{length, getD, set, length-set}
 use lib.Seq.{take-set-lt, length-take-le}
 use borrow.Author.Tests.{le-leb, lt-leb, eq-eqb, ne-eqb, not-true, not-false}
 use Rattle.answer.specs.Answers.{three, refusal}
-use Rattle.study.specs.Study.{Action, Study, actionAt}
+use Rattle.study.specs.Study.{Action, Study, inForce, actionAt}
 use Rattle.lawful.specs.Lawful.{LawfulAction}
-use Rattle.plans.specs.Plans.{State, after}
+use Rattle.plans.specs.Plans.{State, Usable, after}
 use Rattle.runs.specs.Run.{Failing, none, fails, stops, barred, held, runOn}
-use Rattle.tables.specs.Rows.{Row}
+use Rattle.tables.specs.Rows.{Row, outColumn}
 use Rattle.tables.specs.declared.Act.{Act}
 use Rattle.stepping.specs.declared.Fails.the-variants.{Nowhere, At}
 use Rattle.stepping.specs.declared.Turn.the-variants.{On, Stops}
@@ -30,21 +30,24 @@ module _ (t : Study) (past : List State) (s : State) (k i : ℕ) (rest : List �
   unfolding runOn
   run-too-high h = rw (le-leb (length (t .actions)) i h)
 
-  run-barred : (v : ℕ) → i < length (t .actions) → barred s a ≡ fails v → runOn t past s k (i ∷ rest) ≡ stops (three 15 k v)
+  run-out : i < length (t .actions) → inForce (t .situation) a ≡ false → runOn t past s k (i ∷ rest) ≡ stops (refusal 20 k)
   unfolding runOn
-  run-barred v h e = rw (lt-leb (length (t .actions)) i h, e)
+  run-out h out = rw (lt-leb (length (t .actions)) i h, out)
 
-  run-held :
-      i < length (t .actions) → barred s a ≡ none → held (s ∷ past) (a .var) (a .post) ≡ true
-      → runOn t past s k (i ∷ rest) ≡ stops (three 16 k (a .var))
-  unfolding runOn
-  run-held h e b = rw (lt-leb (length (t .actions)) i h, e, b)
+  module _ (u : Usable t i) where
+    run-barred : (v : ℕ) → barred s a ≡ fails v → runOn t past s k (i ∷ rest) ≡ stops (three 15 k v)
+    unfolding runOn
+    run-barred v e = rw (lt-leb (length (t .actions)) i (u .there), u .in-force, e)
 
-  run-step :
-      i < length (t .actions) → barred s a ≡ none → held (s ∷ past) (a .var) (a .post) ≡ false
-      → runOn t past s k (i ∷ rest) ≡ runOn t (s ∷ past) (after s a) (k + 1) rest
-  unfolding runOn
-  run-step h e b = rw (lt-leb (length (t .actions)) i h, e, b)
+    run-held : barred s a ≡ none → held (s ∷ past) (a .var) (a .post) ≡ true → runOn t past s k (i ∷ rest) ≡ stops (three 16 k (a .var))
+    unfolding runOn
+    run-held e b = rw (lt-leb (length (t .actions)) i (u .there), u .in-force, e, b)
+
+    run-step :
+        barred s a ≡ none → held (s ∷ past) (a .var) (a .post) ≡ false
+        → runOn t past s k (i ∷ rest) ≡ runOn t (s ∷ past) (after s a) (k + 1) rest
+    unfolding runOn
+    run-step e b = rw (lt-leb (length (t .actions)) i (u .there), u .in-force, e, b)
 
 pub is-at : (f : Failing) (v : ℕ) → At v ≡ failsOf f → f ≡ fails v
 is-at none v e = cc
@@ -88,54 +91,59 @@ module _
     takes-14 h rest = run-too-high t past (shown t table) k i rest (omega (arith, ready .count))
 
     module _ (there : i < actions) where
-      usable : i < length (t .actions)
-      usable = omega (arith, ready .count)
+      pub takes-20 : eqb (getD (outColumn acts) i 0) 0 ≡ false → Takes t past k i table table marks (Stops (refusal 20 k))
+      takes-20 out rest = run-out t past (shown t table) k i rest (omega (arith, ready .count)) (sym (ready .force i there) ∙ out)
 
       barred-is : barred (shown t table) (actionAt (t .actions) i) ≡ barred table (actionAt (t .actions) i)
       barred-is =
           let a = lawful ready i there in
           barred-shown (length (t .counts)) table (actionAt (t .actions) i) (a .has-pre .there) (λ j h. a .conditions .has j h .there)
 
-      pub takes-15 :
-          {v : ℕ} → At v ≡ failsOf (barred table (actionAt (t .actions) i))
-          → Takes t past k i table table marks (Stops (three 15 k v))
-      takes-15 {v} e rest = run-barred t past (shown t table) k i rest v usable (barred-is ∙ is-at _ v e)
+      -- it is in force
+      module _ (force : eqb (getD (outColumn acts) i 0) 0 ≡ true) where
+        usable : Usable t i
+        usable = record { there = omega (arith, ready .count); in-force = sym (ready .force i there) ∙ force }
 
-      -- nothing bars it
-      module _
-          (free : Nowhere ≡ failsOf (barred table (actionAt (t .actions) i)))
-          {act : Act} (tells : Tells file act (actionAt (t .actions) i))
-          {v p : ℕ} (var : v ≡ act .var) (post : p ≡ act .post)
-        where
-          told : eqb (getD marks (16 * v + p) 0) 0 ≡ not (held (shown t table ∷ past) (actionAt (t .actions) i .var) (actionAt (t .actions) i .post))
-          told =
-              stage .marked .tells v p (var-small ready i there tells var post) (post-small ready i there tells var post)
-              ∙ (rw (var-is ready i there tells var post, post-is ready i there tells var post))
+        pub takes-15 :
+            {v : ℕ} → At v ≡ failsOf (barred table (actionAt (t .actions) i))
+            → Takes t past k i table table marks (Stops (three 15 k v))
+        takes-15 {v} e rest = run-barred t past (shown t table) k i rest usable v (barred-is ∙ is-at _ v e)
 
-          pub takes-16 : (getD marks (16 * v + p) 0 ≡ 0 → ⊥) → Takes t past k i table table marks (Stops (three 16 k v))
-          takes-16 o rest =
-              run-held t past (shown t table) k i rest usable (barred-is ∙ is-nowhere _ free) (not-false _ (sym told ∙ ne-eqb _ 0 o))
-              ∙ (rw (var-is ready i there tells var post))
+        -- nothing bars it
+        module _
+            (free : Nowhere ≡ failsOf (barred table (actionAt (t .actions) i)))
+            {act : Act} (tells : Tells file act (actionAt (t .actions) i))
+            {v p : ℕ} (var : v ≡ act .var) (post : p ≡ act .post)
+          where
+            told : eqb (getD marks (16 * v + p) 0) 0 ≡ not (held (shown t table ∷ past) (actionAt (t .actions) i .var) (actionAt (t .actions) i .post))
+            told =
+                stage .marked .tells v p (var-small ready i there tells var post) (post-small ready i there tells var post)
+                ∙ (rw (var-is ready i there tells var post, post-is ready i there tells var post))
 
-          shown-set : shown t (set table v p) ≡ set (shown t table) v p
-          shown-set = take-set-lt (length (t .counts)) table v p (var-small ready i there tells var post)
+            pub takes-16 : (getD marks (16 * v + p) 0 ≡ 0 → ⊥) → Takes t past k i table table marks (Stops (three 16 k v))
+            takes-16 o rest =
+                run-held t past (shown t table) k i rest usable (barred-is ∙ is-nowhere _ free) (not-false _ (sym told ∙ ne-eqb _ 0 o))
+                ∙ (rw (var-is ready i there tells var post))
 
-          stage-more : Stage t (shown t table ∷ past) (set table v p) (set marks (16 * v + p) 1)
-          stage-more =
-              record {
-                long = length-set table v p ∙ stage .long;
-                marked =
-                    rw shown-set
-                    (marked-more (stage .marked) v p (var-small ready i there tells var post) (ready .lawful .few-variables)
-                    (omega (arith, length-take-le (length (t .counts)) table (omega (arith, stage .long, ready .lawful .few-variables))))
-                    (post-small ready i there tells var post));
-              }
+            shown-set : shown t (set table v p) ≡ set (shown t table) v p
+            shown-set = take-set-lt (length (t .counts)) table v p (var-small ready i there tells var post)
 
-          pub takes-on : getD marks (16 * v + p) 0 ≡ 0 → Takes t past k i table (set table v (act .post)) (set marks (16 * v + p) 1) On
-          takes-on e =
-              rw (← post) (
-                λ rest.
-                    run-step t past (shown t table) k i rest usable (barred-is ∙ is-nowhere _ free) (not-true _ (sym told ∙ eq-eqb _ 0 e))
-                    ∙ (rw (shown-set, var-is ready i there tells var post, post-is ready i there tells var post)),
-                stage-more,
-              )
+            stage-more : Stage t (shown t table ∷ past) (set table v p) (set marks (16 * v + p) 1)
+            stage-more =
+                record {
+                  long = length-set table v p ∙ stage .long;
+                  marked =
+                      rw shown-set
+                      (marked-more (stage .marked) v p (var-small ready i there tells var post) (ready .lawful .few-variables)
+                      (omega (arith, length-take-le (length (t .counts)) table (omega (arith, stage .long, ready .lawful .few-variables))))
+                      (post-small ready i there tells var post));
+                }
+
+            pub takes-on : getD marks (16 * v + p) 0 ≡ 0 → Takes t past k i table (set table v (act .post)) (set marks (16 * v + p) 1) On
+            takes-on e =
+                rw (← post) (
+                  λ rest.
+                      run-step t past (shown t table) k i rest usable (barred-is ∙ is-nowhere _ free) (not-true _ (sym told ∙ eq-eqb _ 0 e))
+                      ∙ (rw (shown-set, var-is ready i there tells var post, post-is ready i there tells var post)),
+                  stage-more,
+                )

@@ -6,11 +6,11 @@ use mathlib.Core.Bool.{not}
 use mathlib.Core.List.{List, [], _∷_}
 use lib.Dec.{eqb}
 use lib.ListN.{length, getD, take}
-use Rattle.study.specs.Study.{Action, Study, actionAt, conditionAt}
+use Rattle.study.specs.Study.{Action, Study, inForce, actionAt, conditionAt}
 use Rattle.lawful.specs.Lawful.{Lawful}
 use Rattle.plans.specs.Plans.{State}
 use Rattle.tables.specs.Tables.{HoldsConditions}
-use Rattle.tables.specs.Rows.{Row, OpensAction}
+use Rattle.tables.specs.Rows.{Row, outColumn, OpensAction}
 use Rattle.tables.specs.declared.Act.{Act}
 use Rattle.runs.specs.Run.{stops, Failing, none, fails, held, away, atGoal, runOn}
 use Rattle.stepping.specs.declared.Fails.{Fails}
@@ -37,6 +37,7 @@ pub record Ready (file : List ℕ) (actions : ℕ) (acts : List Row) (t : Study)
   pub lawful : Lawful t
   pub count : actions ≡ length (t .actions)
   pub action : (i : ℕ) {act : Act} → i < actions → OpensAction acts i act → Tells file act (actionAt (t .actions) i)
+  pub force : (i : ℕ) → i < actions → eqb (getD (outColumn acts) i 0) 0 ≡ inForce (t .situation) (actionAt (t .actions) i)
 
 -- the state that a table of 32 entries holds
 abbrev pub shown : Study → List ℕ → State

@@ -42,6 +42,9 @@ fn take_step(
     if actions <= i {
         return stops(14, k, 0);
     }
+    if !tables::in_force(acts, i) {
+        return stops(20, k, 0);
+    }
     let act = tables::action_at(acts, i);
     if let Fails::At(v) = bars::barred(file, act, state) {
         return stops(15, k, v);

@@ -1,4 +1,5 @@
 pub mod Setters
+pub mod Repeats
 pub mod Verdicts
 pub mod Readings
 pub mod Refusals

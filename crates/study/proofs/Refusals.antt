@@ -2,6 +2,7 @@
 -- Assumes nothing.
 use mathlib.Core.Path.{_≡_}
 use mathlib.Core.Bool.{Bool, true, false, not, _&&_}
+use mathlib.Core.Option.{Option, none, some}
 use mathlib.Core.List.{List}
 use Prim.Native.Nat.{ℕ, zero, suc, _≤_}
 use native.Mathlib.Omega.{arith}
@@ -12,9 +13,9 @@ use Rattle.plain.proofs.Tests.{picked}
 use Rattle.records.specs.Records.{recordAt}
 use Rattle.records.specs.declared.Found.{Found}
 use Rattle.records.specs.declared.Found.the-variants.{There, Unknown, Cut, Ended}
-use Rattle.study.specs.Study.{Study}
-use Rattle.study.specs.Reading.{Said, says, refused, Record, variable, action, condition, task, seed, end, recordFrom, Draft, allowed, inRange, sets, above, lastAction, fault}
-use Rattle.study.specs.Reading.{Verdict, taken, unless, judged, verdictAt, reading}
+use Rattle.study.specs.Study.{Study, always}
+use Rattle.study.specs.Reading.{Said, says, refused, Record, variable, action, condition, task, seed, end, times, present, recordFrom, Draft, allowed, inRange, above, lastAction, fault}
+use Rattle.study.specs.Reading.{Verdict, firstRepeat, ended, taken, unless, judged, verdictAt, reading}
 use Rattle.study.proofs.Readings.{VerdictHas, reading-has}
 
 abbrev pub NumberedIfRefused : Said → Type 0
@@ -24,17 +25,17 @@ NumberedIfRefused (refused number place) = (1 ≤ number) × (number ≤ 8)
 abbrev NumberedVerdict : Verdict → Type 0
 NumberedVerdict = VerdictHas NumberedIfRefused (λ at d. Unit {0})
 
-small : (b : Bool) {x y : ℕ} → (b ≡ true → x ≤ 7) → (b ≡ false → y ≤ 7) → pick b x y ≤ 7
-small = picked (λ (n : ℕ). n ≤ 7)
+small : (b : Bool) {x y : ℕ} → (b ≡ true → x ≤ 6) → (b ≡ false → y ≤ 6) → pick b x y ≤ 6
+small = picked (λ (n : ℕ). n ≤ 6)
 
-fault-small : (s : Study) (r : Record) → fault s r ≤ 7
+-- 7 is no record's fault: the end record decides it
+pub fault-small : (s : Study) (r : Record) → fault s r ≤ 6
 unfolding fault
 fault-small s (variable n) = small (leb 32 (length (s .counts))) (λ _. omega arith) (λ _. small (leb 2 n && leb n 16) (λ _. omega arith) (λ _. omega arith))
 fault-small s (action v p q) =
     small (leb 256 (length (s .actions))) (λ _. omega arith)
     λ _. small (not (inRange s v p && inRange s v q)) (λ _. omega arith)
-    λ _. small (eqb p q) (λ _. omega arith)
-    λ _. small (sets (s .actions) v q) (λ _. omega arith) (λ _. omega arith)
+    λ _. small (eqb p q) (λ _. omega arith) (λ _. omega arith)
 fault-small s (condition v q) =
     small (not (inRange s v q)) (λ _. omega arith)
     λ _. small (eqb v (lastAction s .var)) (λ _. omega arith)
@@ -42,17 +43,25 @@ fault-small s (condition v q) =
 fault-small s (task v p q) = small (eqb v (length (s .tasks)) && (inRange s v p && inRange s v q)) (λ _. omega arith) (λ _. omega arith)
 fault-small s (seed n) = small (leb 1 n && leb n 2147483646) (λ _. omega arith) (λ _. omega arith)
 fault-small s end = omega arith
+fault-small s (times n) = small (eqb n always) (λ _. omega arith) (λ _. omega arith)
+fault-small s (present n) = small (leb n 7) (λ _. small (eqb n 0) (λ _. omega arith) (λ _. omega arith)) (λ _. omega arith)
 
-taken-numbered : (file : List ℕ) (d : Draft) (kind next : ℕ) (r : Record) → NumberedVerdict (taken file d kind next r)
+ended-numbered : (file : List ℕ) (next : ℕ) (d : Draft) (repeat : Option ℕ) → NumberedIfRefused (ended file next d repeat)
+ended-numbered file next d (some i) = omega arith
+ended-numbered file next d none = picked NumberedIfRefused (ltb next (length file)) (λ _. omega arith) (λ _. tt)
+
+taken-numbered : (file : List ℕ) (at : ℕ) (d : Draft) (kind next : ℕ) (r : Record) → NumberedVerdict (taken file at d kind next r)
 unfolding taken
-taken-numbered file d kind next (variable n) = tt
-taken-numbered file d kind next (action v p q) = tt
-taken-numbered file d kind next (condition v q) = tt
-taken-numbered file d kind next (task v p q) = tt
-taken-numbered file d kind next (seed n) = tt
-taken-numbered file d kind next end = picked NumberedIfRefused (ltb next (length file)) (λ _. omega arith) (λ _. tt)
+taken-numbered file at d kind next (variable n) = tt
+taken-numbered file at d kind next (action v p q) = tt
+taken-numbered file at d kind next (condition v q) = tt
+taken-numbered file at d kind next (task v p q) = tt
+taken-numbered file at d kind next (seed n) = tt
+taken-numbered file at d kind next end = ended-numbered file next d (firstRepeat (d .study))
+taken-numbered file at d kind next (times n) = tt
+taken-numbered file at d kind next (present n) = tt
 
-unless-numbered : (n at : ℕ) (v : Verdict) → n ≤ 7 → NumberedVerdict v → NumberedVerdict (unless n at v)
+unless-numbered : (n at : ℕ) (v : Verdict) → n ≤ 6 → NumberedVerdict v → NumberedVerdict (unless n at v)
 unfolding unless
 unless-numbered zero at v small h = h
 unless-numbered (suc n) at v small h = omega arith
@@ -61,7 +70,7 @@ judged-numbered : (file : List ℕ) (at : ℕ) (d : Draft) (f : Found) → Numbe
 unfolding judged
 judged-numbered file at d (There kind start next) =
     picked NumberedVerdict (allowed d kind)
-    (λ _. unless-numbered (fault (d .study) (recordFrom file start kind)) at _ (fault-small (d .study) (recordFrom file start kind)) (taken-numbered file d kind next (recordFrom file start kind)))
+    (λ _. unless-numbered (fault (d .study) (recordFrom file start kind)) at _ (fault-small (d .study) (recordFrom file start kind)) (taken-numbered file at d kind next (recordFrom file start kind)))
     (λ _. omega arith)
 judged-numbered file at d (Unknown place) = omega arith
 judged-numbered file at d (Cut kind place) = picked (λ (n : ℕ). (1 ≤ n) × (n ≤ 8)) (allowed d kind) (λ _. omega arith) (λ _. omega arith)

@@ -21,7 +21,7 @@ module _ (file : List ℕ) (at : ℕ) (d : Draft) where
 
     pub verdict-allowed :
         allowed d kind ≡ true
-        → verdictAt file at d ≡ unless (fault (d .study) (recordFrom file start kind)) at (taken file d kind next (recordFrom file start kind))
+        → verdictAt file at d ≡ unless (fault (d .study) (recordFrom file start kind)) at (taken file at d kind next (recordFrom file start kind))
     unfolding judged
     verdict-allowed h = rw (verdict-by there, h)
 

@@ -1,7 +1,8 @@
--- What a file says: a study, or the refusal 1 to 8 with its place. Records are read one by one, and each is tested in the order 2, 3, 1, 4, 5, 6, 7.
+-- What a file says: a study, or the refusal 1 to 8 with its place. Records are read one by one, and each is tested in the order 2, 3, 1, 4, 5, 6; the end record decides 7, then 8.
 -- Assumes nothing.
 use Prim.Native.Nat.{ℕ, zero, suc, _+_, _-_, _*_}
 use mathlib.Core.Bool.{Bool, true, false, not, _&&_, _||_}
+use mathlib.Core.Option.{Option, none, some}
 use mathlib.Core.List.{List, [], _∷_, _++_}
 use lib.Dec.{leb, ltb, eqb}
 use lib.ListN.{length, getD, set}
@@ -9,14 +10,14 @@ use Rattle.plain.specs.Choose.{pick}
 use Rattle.records.specs.Records.{recordAt, numberOf}
 use Rattle.records.specs.declared.Found.{Found}
 use Rattle.records.specs.declared.Found.the-variants.{There, Unknown, Cut, Ended}
-use Rattle.study.specs.Study.{Condition, Action, Study, actionAt}
+use Rattle.study.specs.Study.{Condition, Action, Study, always, inForce, actionAt}
 
 -- what a file says
 pub data Said : Type 0 where
   says : Study → Said
   refused : ℕ → ℕ → Said
 
--- a record by its kind, with the numbers of its body
+-- a record by its kind, with the numbers of its body; `times` has the situations of the last action (kind 7), `present` that of the file (kind 8)
 pub data Record : Type 0 where
   variable : ℕ → Record
   action : ℕ → ℕ → ℕ → Record
@@ -24,6 +25,8 @@ pub data Record : Type 0 where
   task : ℕ → ℕ → ℕ → Record
   seed : ℕ → Record
   end : Record
+  times : ℕ → Record
+  present : ℕ → Record
 
 -- the record of a known kind, from the bytes of its body
 unfoldable pub decoded : ℕ → ℕ → ℕ → ℕ → ℕ → Record
@@ -32,32 +35,37 @@ decoded kind a b c d =
     (pick (eqb kind 2) (action a b c)
     (pick (eqb kind 3) (condition a b)
     (pick (eqb kind 4) (task a b c)
-    (pick (eqb kind 5) (seed (((a * 256 + b) * 256 + c) * 256 + d)) end))))
+    (pick (eqb kind 5) (seed (((a * 256 + b) * 256 + c) * 256 + d))
+    (pick (eqb kind 7) (times a)
+    (pick (eqb kind 8) (present a) end))))))
 
 abbrev pub recordFrom : List ℕ → ℕ → ℕ → Record
 recordFrom file start kind = decoded kind (getD file start 0) (getD file (start + 1) 0) (getD file (start + 2) 0) (getD file (start + 3) 0)
 
--- what has been read so far, and the kind of the last record, 0 before the first
+-- what has been read so far, the kind of the last record, 0 before the first, and where the record of each action stands
 pub record Draft : Type 0 where
   pub study : Study
   pub last : ℕ
+  pub places : List ℕ
 
 abbrev pub blank : Draft
-blank = record { study = record { counts = []; actions = []; tasks = []; seed = 0 }; last = 0 }
+blank = record { study = record { situation = 0; counts = []; actions = []; tasks = []; seed = 0 }; last = 0; places = [] }
 
 -- a variable still lacks its task
 abbrev pub tasksLeft : Study → Bool
 tasksLeft s = ltb (length (s .tasks)) (length (s .counts))
 
--- which kind may follow which: variables; actions, each with its conditions; tasks; the seed; the end
+-- which kind may follow which: the situation; variables; actions, each with its conditions and then its situations; tasks; the seed; the end
 unfoldable pub mayFollow : Bool → ℕ → ℕ → Bool
 mayFollow left last kind =
-    pick (eqb kind 1) (leb last 1)
-    (pick (eqb kind 2) (leb 1 last && leb last 3)
+    pick (eqb kind 1) (leb last 1 || eqb last 8)
+    (pick (eqb kind 2) ((leb 1 last && leb last 3) || eqb last 7)
     (pick (eqb kind 3) (leb 2 last && leb last 3)
-    (pick (eqb kind 4) (leb 1 last && (leb last 4 && left))
+    (pick (eqb kind 4) (((leb 1 last && leb last 4) || eqb last 7) && left)
     (pick (eqb kind 5) (eqb last 4 && not left)
-    (eqb last 5)))))
+    (pick (eqb kind 7) (leb 2 last && leb last 3)
+    (pick (eqb kind 8) (eqb last 0)
+    (eqb last 5)))))))
 
 abbrev pub allowed : Draft → ℕ → Bool
 allowed d kind = mayFollow (tasksLeft (d .study)) (d .last) kind
@@ -66,10 +74,25 @@ allowed d kind = mayFollow (tasksLeft (d .study)) (d .last) kind
 abbrev pub inRange : Study → ℕ → ℕ → Bool
 inRange s v q = ltb v (length (s .counts)) && ltb q (getD (s .counts) v 0)
 
--- some action of the list sets the variable to the value
-unfoldable pub sets : List Action → ℕ → ℕ → Bool
-sets [] v q = false
-sets (a ∷ rest) v q = (eqb (a .var) v && eqb (a .post) q) || sets rest v q
+-- the action is in force and sets the variable to the value
+abbrev pub setsTo : ℕ → Action → ℕ → ℕ → Bool
+setsTo situation a v q = inForce situation a && (eqb (a .var) v && eqb (a .post) q)
+
+-- some action of the list, in force in the situation, sets the variable to the value
+unfoldable pub sets : ℕ → List Action → ℕ → ℕ → Bool
+sets situation [] v q = false
+sets situation (a ∷ rest) v q = setsTo situation a v q || sets situation rest v q
+
+-- the number of the first action in force that sets what an earlier one in force sets, where so many stand before the rest
+unfoldable pub repeatFrom : ℕ → List Action → List Action → Option ℕ
+repeatFrom situation earlier [] = none
+repeatFrom situation earlier (a ∷ rest) =
+    pick (inForce situation a && sets situation earlier (a .var) (a .post))
+    (some (length earlier))
+    (repeatFrom situation (earlier ++ (a ∷ [])) rest)
+
+abbrev pub firstRepeat : Study → Option ℕ
+firstRepeat s = repeatFrom (s .situation) [] (s .actions)
 
 -- the last action, whose conditions are being read
 abbrev pub lastAction : Study → Action
@@ -81,14 +104,13 @@ above [] v = true
 above (c ∷ []) v = ltb (c .var) v
 above (c ∷ (d ∷ rest)) v = above (d ∷ rest) v
 
--- the first of 4, 5, 6, 7 that a record earns, or 0
+-- the first of 4, 5, 6 that a record earns, or 0
 unfoldable pub fault : Study → Record → ℕ
 fault s (variable n) = pick (leb 32 (length (s .counts))) 4 (pick (leb 2 n && leb n 16) 0 5)
 fault s (action v p q) =
     pick (leb 256 (length (s .actions))) 4
     (pick (not (inRange s v p && inRange s v q)) 5
-    (pick (eqb p q) 6
-    (pick (sets (s .actions) v q) 7 0)))
+    (pick (eqb p q) 6 0))
 fault s (condition v q) =
     pick (not (inRange s v q)) 5
     (pick (eqb v (lastAction s .var)) 6
@@ -96,6 +118,8 @@ fault s (condition v q) =
 fault s (task v p q) = pick (eqb v (length (s .tasks)) && (inRange s v p && inRange s v q)) 0 5
 fault s (seed n) = pick (leb 1 n && leb n 2147483646) 0 5
 fault s end = 0
+fault s (times n) = pick (eqb n always) 6 0
+fault s (present n) = pick (leb n 7) (pick (eqb n 0) 6 0) 5
 
 -- an action with one condition more
 abbrev pub withCondition : Action → ℕ → ℕ → Action
@@ -105,28 +129,56 @@ withCondition a v q =
       pre = a .pre;
       post = a .post;
       conditions = a .conditions ++ (record { var = v; value = q } ∷ []);
+      situations = a .situations;
     }
+
+-- an action with its situations
+abbrev pub within : Action → ℕ → Action
+within a n = record { var = a .var; pre = a .pre; post = a .post; conditions = a .conditions; situations = n }
+
+-- the study with other actions
+abbrev pub withActions : Study → List Action → Study
+withActions s actions = record { situation = s .situation; counts = s .counts; actions = actions; tasks = s .tasks; seed = s .seed }
 
 -- the study with one record more
 unfoldable pub with : Study → Record → Study
-with s (variable n) = record { counts = s .counts ++ (n ∷ []); actions = s .actions; tasks = s .tasks; seed = s .seed }
+with s (variable n) =
+    record { situation = s .situation; counts = s .counts ++ (n ∷ []); actions = s .actions; tasks = s .tasks; seed = s .seed }
 with s (action v p q) =
+    withActions s (s .actions ++ (record { var = v; pre = p; post = q; conditions = []; situations = always } ∷ []))
+with s (condition v q) = withActions s (set (s .actions) (length (s .actions) - 1) (withCondition (lastAction s) v q))
+with s (task v p q) =
     record {
+      situation = s .situation;
       counts = s .counts;
-      actions = s .actions ++ (record { var = v; pre = p; post = q; conditions = [] } ∷ []);
-      tasks = s .tasks;
+      actions = s .actions;
+      tasks = s .tasks ++ (record { start = p; goal = q } ∷ []);
       seed = s .seed;
     }
-with s (condition v q) =
-    record {
-      counts = s .counts;
-      actions = set (s .actions) (length (s .actions) - 1) (withCondition (lastAction s) v q);
-      tasks = s .tasks;
-      seed = s .seed;
-    }
-with s (task v p q) = record { counts = s .counts; actions = s .actions; tasks = s .tasks ++ (record { start = p; goal = q } ∷ []); seed = s .seed }
-with s (seed n) = record { counts = s .counts; actions = s .actions; tasks = s .tasks; seed = n }
+with s (seed n) = record { situation = s .situation; counts = s .counts; actions = s .actions; tasks = s .tasks; seed = n }
 with s end = s
+with s (times n) = withActions s (set (s .actions) (length (s .actions) - 1) (within (lastAction s) n))
+with s (present n) = record { situation = n; counts = s .counts; actions = s .actions; tasks = s .tasks; seed = s .seed }
+
+-- where the actions' records stand, with one record more
+unfoldable pub placed : List ℕ → ℕ → Record → List ℕ
+placed places at (variable n) = places
+placed places at (action v p q) = places ++ (at ∷ [])
+placed places at (condition v q) = places
+placed places at (task v p q) = places
+placed places at (seed n) = places
+placed places at end = places
+placed places at (times n) = places
+placed places at (present n) = places
+
+-- what has been read with one record more, which stands at a place
+abbrev pub drafted : Draft → ℕ → ℕ → Record → Draft
+drafted d at kind r = record { study = with (d .study) r; last = kind; places = placed (d .places) at r }
+
+-- the end record's verdict: 7 at the place of the first action that repeats, then 8
+abbrev pub ended : List ℕ → ℕ → Draft → Option ℕ → Said
+ended file next d (some i) = refused 7 (getD (d .places) i 0)
+ended file next d none = pick (ltb next (length file)) (refused 8 next) (says (d .study))
 
 -- after a record: what the file says, or the place to read on from with what has been read
 pub data Verdict : Type 0 where
@@ -134,13 +186,15 @@ pub data Verdict : Type 0 where
   onward : ℕ → Draft → Verdict
 
 -- a record that is there, allowed and without fault
-unfoldable pub taken : List ℕ → Draft → ℕ → ℕ → Record → Verdict
-taken file d kind next (variable n) = onward next (record { study = with (d .study) (variable n); last = kind })
-taken file d kind next (action v p q) = onward next (record { study = with (d .study) (action v p q); last = kind })
-taken file d kind next (condition v q) = onward next (record { study = with (d .study) (condition v q); last = kind })
-taken file d kind next (task v p q) = onward next (record { study = with (d .study) (task v p q); last = kind })
-taken file d kind next (seed n) = onward next (record { study = with (d .study) (seed n); last = kind })
-taken file d kind next end = settled (pick (ltb next (length file)) (refused 8 next) (says (d .study)))
+unfoldable pub taken : List ℕ → ℕ → Draft → ℕ → ℕ → Record → Verdict
+taken file at d kind next (variable n) = onward next (drafted d at kind (variable n))
+taken file at d kind next (action v p q) = onward next (drafted d at kind (action v p q))
+taken file at d kind next (condition v q) = onward next (drafted d at kind (condition v q))
+taken file at d kind next (task v p q) = onward next (drafted d at kind (task v p q))
+taken file at d kind next (seed n) = onward next (drafted d at kind (seed n))
+taken file at d kind next end = settled (ended file next d (firstRepeat (d .study)))
+taken file at d kind next (times n) = onward next (drafted d at kind (times n))
+taken file at d kind next (present n) = onward next (drafted d at kind (present n))
 
 -- refused with a number at a place, unless the number is 0
 unfoldable pub unless : ℕ → ℕ → Verdict → Verdict
@@ -150,7 +204,7 @@ unless (suc n) at v = settled (refused (suc n) at)
 unfoldable pub judged : List ℕ → ℕ → Draft → Found → Verdict
 judged file at d (There kind start next) =
     pick (allowed d kind)
-    (unless (fault (d .study) (recordFrom file start kind)) at (taken file d kind next (recordFrom file start kind)))
+    (unless (fault (d .study) (recordFrom file start kind)) at (taken file at d kind next (recordFrom file start kind)))
     (settled (refused 3 at))
 judged file at d (Cut kind place) = settled (refused (pick (allowed d kind) 1 3) place)
 judged file at d (Unknown place) = settled (refused (numberOf (Unknown place)) place)

@@ -1,18 +1,22 @@
--- A study: its variables, actions, tasks and seed, as document 01 names them.
+-- A study: its situation, variables, actions, tasks and seed, as document 01 and the requests of document 02 name them.
 -- Assumes nothing.
 use Prim.Native.Nat.{ℕ}
+use mathlib.Core.Bool.{Bool}
 use mathlib.Core.List.{List, []}
 use lib.ListN.{getD}
+use Rattle.bits.specs.Bits.{bit}
 
 pub record Condition : Type 0 where
   pub var : ℕ
   pub value : ℕ
 
+-- `situations` is the set of situations in which the action holds: bit s, worth 2^s, for situation s
 pub record Action : Type 0 where
   pub var : ℕ
   pub pre : ℕ
   pub post : ℕ
   pub conditions : List Condition
+  pub situations : ℕ
 
 pub record Task : Type 0 where
   pub start : ℕ
@@ -20,14 +24,23 @@ pub record Task : Type 0 where
 
 -- `counts` says how many values each variable has; task v is that of variable v
 pub record Study : Type 0 where
+  pub situation : ℕ
   pub counts : List ℕ
   pub actions : List Action
   pub tasks : List Task
   pub seed : ℕ
 
--- what stands past the end of a list of actions
+-- a set of all eight situations
+abbrev pub always : ℕ
+always = 255
+
+-- an action is in force in a situation if its set has it
+unfoldable pub inForce : ℕ → Action → Bool
+inForce situation a = bit (a .situations) situation
+
+-- what stands past the end of a list of actions: it is never in force
 abbrev pub noAction : Action
-noAction = record { var = 0; pre = 0; post = 0; conditions = [] }
+noAction = record { var = 0; pre = 0; post = 0; conditions = []; situations = 0 }
 
 abbrev pub noTask : Task
 noTask = record { start = 0; goal = 0 }

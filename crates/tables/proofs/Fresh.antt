@@ -9,4 +9,4 @@ use Rattle.tables.specs.Rows.{seenAll, column}
 pub fresh-sized : Sized (seenAll (replicate 256 (replicate 6 0)) (replicate 32 (replicate 3 0)) (replicate {A = ℕ} 512 0))
 unfolding column
 fresh-sized =
-    record { counts = refl; setters = refl; vars = refl; pres = refl; posts = refl; places = refl; manys = refl; starts = refl; goals = refl }
+    record { counts = refl; setters = refl; vars = refl; pres = refl; posts = refl; places = refl; manys = refl; outs = refl; starts = refl; goals = refl }

@@ -1,8 +1,10 @@
 -- The tables as they are kept, in rows: each column of the rows is one of the plain tables.
 -- Assumes nothing.
-use Prim.Native.Nat.{ℕ, _+_, _*_, _<_}
+use Prim.Native.Nat.{ℕ, _+_, _*_, _/_, _%_, _<_}
 use mathlib.Core.Path.{_≡_}
+use mathlib.Core.Bool.{Bool, _&&_}
 use mathlib.Core.List.{List, [], _∷_}
+use lib.Dec.{eqb}
 use lib.ListN.{length, getD}
 use Rattle.tables.specs.Tables.{ActionTables, Tables, actionTables, tables}
 use Rattle.tables.specs.declared.Act.{Act}
@@ -19,9 +21,15 @@ column f (row ∷ rows) = f row ∷ column f rows
 abbrev pub field : ℕ → Row → ℕ
 field k row = getD row k 0
 
--- an action's row: variable, pre, post, how many conditions, and the place of the first in two bytes, the low one first
+-- an action's row: variable, pre, post, how many conditions, with 64 more where it is out of force, and the place of the first in two bytes, the low one first
 abbrev pub placeIn : Row → ℕ
 placeIn row = field 4 row + 256 * field 5 row
+
+abbrev pub manyIn : Row → ℕ
+manyIn row = field 3 row % 64
+
+abbrev pub outIn : Row → ℕ
+outIn row = field 3 row / 64
 
 abbrev pub varColumn : List Row → List ℕ
 varColumn acts = column (field 0) acts
@@ -33,7 +41,10 @@ abbrev pub postColumn : List Row → List ℕ
 postColumn acts = column (field 2) acts
 
 abbrev pub manyColumn : List Row → List ℕ
-manyColumn acts = column (field 3) acts
+manyColumn acts = column manyIn acts
+
+abbrev pub outColumn : List Row → List ℕ
+outColumn acts = column outIn acts
 
 abbrev pub placeColumn : List Row → List ℕ
 placeColumn acts = column placeIn acts
@@ -49,13 +60,18 @@ abbrev pub goalColumn : List Row → List ℕ
 goalColumn vars = column (field 2) vars
 
 abbrev pub seen : (setters : List ℕ) → (acts : List Row) → ActionTables
-seen setters acts = actionTables setters (varColumn acts) (preColumn acts) (postColumn acts) (placeColumn acts) (manyColumn acts)
+seen setters acts = actionTables setters (varColumn acts) (preColumn acts) (postColumn acts) (placeColumn acts) (manyColumn acts) (outColumn acts)
 
 abbrev pub seenAll : (acts vars : List Row) → (setters : List ℕ) → Tables
 seenAll acts vars setters = tables (countColumn vars) (seen setters acts) (startColumn vars) (goalColumn vars)
 
 abbrev pub openedAction : Row → Act
-openedAction row = record { var = field 0 row; pre = field 1 row; post = field 2 row; many = field 3 row; place = placeIn row }
+openedAction row = record { var = field 0 row; pre = field 1 row; post = field 2 row; many = manyIn row; place = placeIn row }
+
+-- the row's action is in force and sets the variable to the value
+abbrev pub setsInRow : List Row → ℕ → ℕ → ℕ → Bool
+setsInRow acts i v q =
+    eqb (getD (varColumn acts) i 0) v && (eqb (getD (postColumn acts) i 0) q && eqb (getD (outColumn acts) i 0) 0)
 
 abbrev pub openedVariable : Row → Var
 openedVariable row = record { count = field 0 row; start = field 1 row; goal = field 2 row }

@@ -2,15 +2,17 @@
 -- Assumes nothing.
 use Prim.Native.Nat.{ℕ, _+_, _*_, _≤_, _<_}
 use mathlib.Core.Path.{_≡_}
+use mathlib.Core.Bool.{true}
 use mathlib.Core.List.{List}
+use lib.Dec.{eqb}
 use lib.ListN.{length, getD}
-use Rattle.study.specs.Study.{Condition, Action, Task, Study, actionAt, taskAt, conditionAt}
+use Rattle.study.specs.Study.{Condition, Action, Task, Study, inForce, actionAt, taskAt, conditionAt}
 use Rattle.study.specs.Reading.{says, refused, reading}
 use Rattle.tables.specs.declared.Loaded.{Loaded}
 use Rattle.tables.specs.declared.Loaded.the-variants as Said-of
 
--- by variable and value, at 16 * v + q: the action that sets it;
--- by action: its variable, pre and post, the place of its first condition in the file, and how many it has
+-- by variable and value, at 16 * v + q: the action in force that sets it;
+-- by action: its variable, pre and post, the place of its first condition in the file, how many it has, and 0 where it is in force
 pub record ActionTables : Type 0 where
   pub setters : List ℕ
   pub vars : List ℕ
@@ -18,6 +20,7 @@ pub record ActionTables : Type 0 where
   pub posts : List ℕ
   pub places : List ℕ
   pub manys : List ℕ
+  pub outs : List ℕ
 
 -- by variable: how many values, its start and its goal
 pub record Tables : Type 0 where
@@ -26,9 +29,9 @@ pub record Tables : Type 0 where
   pub starts : List ℕ
   pub goals : List ℕ
 
-abbrev pub actionTables : (setters vars pres posts places manys : List ℕ) → ActionTables
-actionTables setters vars pres posts places manys =
-    record { setters = setters; vars = vars; pres = pres; posts = posts; places = places; manys = manys }
+abbrev pub actionTables : (setters vars pres posts places manys outs : List ℕ) → ActionTables
+actionTables setters vars pres posts places manys outs =
+    record { setters = setters; vars = vars; pres = pres; posts = posts; places = places; manys = manys; outs = outs }
 
 abbrev pub tables : List ℕ → ActionTables → List ℕ → List ℕ → Tables
 tables counts acts starts goals = record { counts = counts; acts = acts; starts = starts; goals = goals }
@@ -42,6 +45,7 @@ pub record Sized (t : Tables) : Type 0 where
   pub posts : length (t .acts .posts) ≡ 256
   pub places : length (t .acts .places) ≡ 256
   pub manys : length (t .acts .manys) ≡ 256
+  pub outs : length (t .acts .outs) ≡ 256
   pub starts : length (t .starts) ≡ 32
   pub goals : length (t .goals) ≡ 32
 
@@ -58,19 +62,26 @@ pub record HoldsConditions (file : List ℕ) (place many : ℕ) (conditions : Li
   pub var : (k : ℕ) → k < many → getD file (place + 3 * k + 1) 0 ≡ conditionAt conditions k .var
   pub value : (k : ℕ) → k < many → getD file (place + 3 * k + 2) 0 ≡ conditionAt conditions k .value
 
--- action i of the tables; `found`: the table of setters names it for the value that it sets
-pub record HoldsAction (file : List ℕ) (t : ActionTables) (i : ℕ) (a : Action) : Type 0 where
+-- action i of the tables, in a situation
+pub record HoldsAction (file : List ℕ) (situation : ℕ) (t : ActionTables) (i : ℕ) (a : Action) : Type 0 where
   pub var : getD (t .vars) i 0 ≡ a .var
   pub pre : getD (t .pres) i 0 ≡ a .pre
   pub post : getD (t .posts) i 0 ≡ a .post
+  pub low : a .var < 32
   pub narrow : a .post < 16
-  pub found : getD (t .setters) (16 * a .var + a .post) 0 ≡ i
+  pub force : eqb (getD (t .outs) i 0) 0 ≡ inForce situation a
   pub conditions : HoldsConditions file (getD (t .places) i 0) (getD (t .manys) i 0) (a .conditions)
 
-pub record HoldsActions (file : List ℕ) (n : ℕ) (t : ActionTables) (actions : List Action) : Type 0 where
+pub record HoldsActions (file : List ℕ) (situation n : ℕ) (t : ActionTables) (actions : List Action) : Type 0 where
   pub count : n ≡ length actions
   pub few : n ≤ 256
-  pub action : (i : ℕ) → i < n → HoldsAction file t i (actionAt actions i)
+  pub action : (i : ℕ) → i < n → HoldsAction file situation t i (actionAt actions i)
+
+-- the table of setters names each action in force for the value that it sets
+abbrev pub NamesSetters : (situation n : ℕ) → (setters : List ℕ) → List Action → Type 0
+NamesSetters situation n setters actions =
+    (i : ℕ) → i < n → inForce situation (actionAt actions i) ≡ true
+    → getD setters (16 * actionAt actions i .var + actionAt actions i .post) 0 ≡ i
 
 pub record HoldsTasks (n : ℕ) (starts goals : List ℕ) (tasks : List Task) : Type 0 where
   pub count : n ≡ length tasks
@@ -81,7 +92,8 @@ pub record HoldsTasks (n : ℕ) (starts goals : List ℕ) (tasks : List Task) : 
 pub record Holds (file : List ℕ) (nv na x : ℕ) (t : Tables) (s : Study) : Type 0 where
   pub sized : Sized t
   pub counts : HoldsCounts nv (t .counts) (s .counts)
-  pub actions : HoldsActions file na (t .acts) (s .actions)
+  pub actions : HoldsActions file (s .situation) na (t .acts) (s .actions)
+  pub setters : NamesSetters (s .situation) na (t .acts .setters) (s .actions)
   pub tasks : HoldsTasks nv (t .starts) (t .goals) (s .tasks)
   pub seed : x ≡ s .seed
 

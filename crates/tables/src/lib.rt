@@ -1,8 +1,9 @@
 // The tables that one pass over a file fills, in rows, and what a row holds.
 ghost use mathlib.Core.Path.{_≡_};
 ghost use Prim.Native.Nat.{_+_, _*_, _≤_, _<_};
-ghost use lib.ListN.{length};
-ghost use Rattle.tables.specs.Rows.{startColumn, openedAction, openedVariable, OpensAction, OpensVariable, Begins};
+ghost use lib.Dec.{eqb};
+ghost use lib.ListN.{length, getD};
+ghost use Rattle.tables.specs.Rows.{startColumn, outColumn, setsInRow, openedAction, openedVariable, OpensAction, OpensVariable, Begins};
 ghost use Rattle.tables.specs.Numbers.{notLoaded};
 use answer::Answer;
 
@@ -54,7 +55,7 @@ fn opened(row: [u8; 6]) -> Act
         var: row[0],
         pre: row[1],
         post: row[2],
-        many: row[3],
+        many: row[3] % 64,
         place: place_of(row[4], row[5]),
     }
 }
@@ -81,6 +82,23 @@ pub fn variable_at(vars: &[[u8; 3]; 32], v: usize) -> Var
     ensures { λ r. ⌜ OpensVariable (now (vars .entry)) v r ⌝ }
 {
     opened_variable(vars[v])
+}
+
+// Whether an action is in force: its row says so.
+pub fn in_force(acts: &[[u8; 6]; 256], i: usize) -> bool
+    requires { ⌜ i < 256 ⌝ }
+    ensures { λ r. ⌜ r ≡ eqb (getD (outColumn (now (acts .entry))) i 0) 0 ⌝ }
+{
+    acts[i][3] < 64
+}
+
+// Whether an action is in force and sets the variable to the value.
+pub fn sets_to(acts: &[[u8; 6]; 256], i: usize, v: u8, q: u8) -> bool
+    requires { ⌜ i < 256 ⌝ }
+    ensures { λ r. ⌜ r ≡ setsInRow (now (acts .entry)) i v q ⌝ }
+{
+    let row = acts[i];
+    row[0] == v && (row[2] == q && row[3] < 64)
 }
 
 // Puts the first n variables at their starts.

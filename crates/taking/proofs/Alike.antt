@@ -63,7 +63,7 @@ module _ {file : List ℕ} {n a total : ℕ} {vars posts places manys steps want
 
     wanted-holds : (u q : ℕ) → Wants (conditionsOf t i) u q → getD state u 0 ≡ q
     wanted-holds u q w =
-        let has = wanted-there (prep .deeds .lawful .action i (on-walk-usable (ready .is-member)) .conditions) u q w in
+        let has = wanted-there (prep .deeds .lawful .action i (on-walk-usable (ready .is-member) .there) .conditions) u q w in
         sym (value-is prep going u (omega (arith, has, prep .deeds .lawful .a-task-each)))
         ∙ wanted-met (going .kept) ready (prep .deeds .lawful) (prep .met) u q w
 

@@ -56,7 +56,7 @@ module _ {file : List ℕ} {n a total : ℕ} {vars posts places manys steps want
   rows = rw (prep .variables) at (prep .rowed)
 
   pub action-stands : (i : ℕ) → OnAWalk t i → StandAt file (getD places i 0) (getD manys i 0) t i
-  action-stands i on = deeds-stand (prep .deeds) i (on-walk-usable on)
+  action-stands i on = deeds-stand (prep .deeds) i (on-walk-usable on .there)
 
   module _ {ranks wants state held taken : List ℕ} (going : Going ranks file places manys steps wants state held (prep .list) taken t) where
     pub part : Part t taken

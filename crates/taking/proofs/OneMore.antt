@@ -84,7 +84,7 @@ module _ {file : List ℕ} {n a total : ℕ} {vars posts places manys steps want
   still-counted : (u q : ℕ) → Wants (conditionsOf t i) u q → 1 ≤ getD wants (16 * u + q) 0
   still-counted u q w =
       let lawful = prep .deeds .lawful in
-      let has = wants-has (t .counts) (conditionsOf t i) (lawful .action i (on-walk-usable (ready .is-member)) .conditions .has) u q w in
+      let has = wants-has (t .counts) (conditionsOf t i) (lawful .action i (on-walk-usable (ready .is-member) .there) .conditions .has) u q w in
       omega (
         arith,
         going .counts u q (omega (arith, has .there, lawful .few-variables)) (omega (arith, has .small, lawful .few-values u (has .there))),

@@ -225,7 +225,7 @@ module _ {file ranks : List ℕ} {n total : ℕ} {vars posts places manys steps 
         let on = chosen-ready prep .is-member in
         let lawful = prep .deeds .lawful in
         let w = wants-read (action-stands prep i on) j h in
-        omega (arith, wanted-there (lawful .action i (on-walk-usable on) .conditions) _ _ w, lawful .a-task-each, prep .variables)
+        omega (arith, wanted-there (lawful .action i (on-walk-usable on .there) .conditions) _ _ w, lawful .a-task-each, prep .variables)
 
     -- .. and hold, so what leaves their values has a rank
     pub chosen-ranked : (j : ℕ) → j < getD manys i 0 → getD steps (entryAt file (getD places i 0 + 3 * j)) 0 < length ranks + 2

@@ -78,5 +78,5 @@ module _ {t : Study} (lawful : Lawful t) {v q : ℕ} {list : List ℕ} (steps : 
   pub same-rows : q < 16 → SameRows v steps steps′
   same-rows small u x d h =
       entered .stays (16 * u + x)
-      (λ k g e. d (omega (arith, pre-small lawful _ (leads-each t v (startOf t v) list q (way .leads) k g .0))))
+      (λ k g e. d (omega (arith, pre-small lawful _ (leads-each t v (startOf t v) list q (way .leads) k g .0 .there))))
       ∙ getD-set-other steps (16 * v + q) (16 * u + x) 1 0 (λ e. d (omega arith))

@@ -30,7 +30,7 @@ module _ {t : Study} (lawful : Lawful t) where
   pub few-tasks : length (t .tasks) ≤ 32
   few-tasks = omega (arith, lawful .a-task-each, lawful .few-variables)
 
-module _ {a : ℕ} {setters vars pres posts : List ℕ} {t : Study} (moves : Moves a setters vars pres posts t) where
+module _ {a : ℕ} {setters vars pres posts outs : List ℕ} {t : Study} (moves : Moves a setters vars pres posts outs t) where
   pub few-actions : a ≤ 256
   few-actions = omega (arith, moves .actions, moves .lawful .few-actions)
 

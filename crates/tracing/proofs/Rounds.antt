@@ -14,33 +14,33 @@ use Rattle.tracing.specs.declared.Walked.the-variants.{NoWalk}
 use Rattle.tracing.proofs.WalksEntered.{Entered, one-more-entered, without-walk}
 
 -- what the tables must tell for the rows to be those of the study's walks
-pub record Told (n a : ℕ) (setters vars pres posts starts goals steps₀ : List ℕ) (t : Study) : Type 0 where
-  pub moves : Moves a setters vars pres posts t
+pub record Told (n a : ℕ) (setters vars pres posts outs starts goals steps₀ : List ℕ) (t : Study) : Type 0 where
+  pub moves : Moves a setters vars pres posts outs t
   pub count : n ≡ length (t .tasks)
   pub tells-start : Tells startOf n starts t
   pub tells-goal : Tells goalOf n goals t
   pub empty : (u : ℕ) → u < 32 → EmptyRow u steps₀
 
 -- where the loop stands
-pub record Underway (n a : ℕ) (setters vars pres posts starts goals steps₀ steps : List ℕ) (total v : ℕ) : Type 0 where
+pub record Underway (n a : ℕ) (setters vars pres posts outs starts goals steps₀ steps : List ℕ) (total v : ℕ) : Type 0 where
   pub inside : v ≤ n
   pub few : total ≤ 16 * v
   pub sized : length steps ≡ 512
-  pub entered : (t : Study) → Told n a setters vars pres posts starts goals steps₀ t → Entered t v steps total
+  pub entered : (t : Study) → Told n a setters vars pres posts outs starts goals steps₀ t → Entered t v steps total
 
 -- what a trace from the end that is entered ensures
-abbrev pub TraceEnsures : ℕ → ℕ → ℕ → ℕ → List ℕ → List ℕ → List ℕ → List ℕ → List ℕ → List ℕ → ℕ → Type 0
-TraceEnsures v s q a setters vars pres posts steps steps′ r =
+abbrev pub TraceEnsures : ℕ → ℕ → ℕ → ℕ → List ℕ → List ℕ → List ℕ → List ℕ → List ℕ → List ℕ → List ℕ → ℕ → Type 0
+TraceEnsures v s q a setters vars pres posts outs steps steps′ r =
     ((length steps′ ≡ 512) × (r ≢ noWalk → r ≤ 16 + 0))
-    × ((t : Study) → Moves a setters vars pres posts t → startOf t v ≡ s → Traces t v q 16 0 (set steps (16 * v + q) 1) steps′ r)
+    × ((t : Study) → Moves a setters vars pres posts outs t → startOf t v ≡ s → Traces t v q 16 0 (set steps (16 * v + q) 1) steps′ r)
 
-module _ {n a : ℕ} {setters vars pres posts starts goals steps₀ steps : List ℕ} {total v : ℕ}
-    (under : Underway n a setters vars pres posts starts goals steps₀ steps total v) (low : v < n) (steps′ : List ℕ) {r : ℕ}
-    (ensures : TraceEnsures v (getD starts v 0) (getD goals v 0) a setters vars pres posts steps steps′ r) where
-  traced : (t : Study) → Told n a setters vars pres posts starts goals steps₀ t → Traces t v (goalOf t v) 16 0 (set steps (16 * v + goalOf t v) 1) steps′ r
+module _ {n a : ℕ} {setters vars pres posts outs starts goals steps₀ steps : List ℕ} {total v : ℕ}
+    (under : Underway n a setters vars pres posts outs starts goals steps₀ steps total v) (low : v < n) (steps′ : List ℕ) {r : ℕ}
+    (ensures : TraceEnsures v (getD starts v 0) (getD goals v 0) a setters vars pres posts outs steps steps′ r) where
+  traced : (t : Study) → Told n a setters vars pres posts outs starts goals steps₀ t → Traces t v (goalOf t v) 16 0 (set steps (16 * v + goalOf t v) 1) steps′ r
   traced t told = rw (told .tells-goal v low) at (ensures .1 t (told .moves) (sym (told .tells-start v low)))
 
-  pub goes-on : r ≢ noWalk → Underway n a setters vars pres posts starts goals steps₀ steps′ (total + r) (v + 1)
+  pub goes-on : r ≢ noWalk → Underway n a setters vars pres posts outs starts goals steps₀ steps′ (total + r) (v + 1)
   goes-on some =
       record {
         inside = omega arith;
@@ -53,6 +53,6 @@ module _ {n a : ℕ} {setters vars pres posts starts goals steps₀ steps : List
       }
 
   pub stops :
-      r ≡ noWalk → (t : Study) → Told n a setters vars pres posts starts goals steps₀ t → WalksAll t n steps′ (NoWalk v)
+      r ≡ noWalk → (t : Study) → Told n a setters vars pres posts outs starts goals steps₀ t → WalksAll t n steps′ (NoWalk v)
   stops none t told =
       without-walk (told .moves .lawful) (omega (arith, told .count)) steps total (under .entered t told) (traced t told .1 none)

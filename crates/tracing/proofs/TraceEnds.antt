@@ -8,6 +8,7 @@ use native.Mathlib.Omega.{arith}
 use lib.ListN.{length, set, length-append}
 use Rattle.study.specs.Study.{Study}
 use Rattle.lawful.specs.Lawful.{Lawful}
+use Rattle.plans.proofs.Usable.{one-setter}
 use Rattle.walks.specs.Walks.{preOf, startOf}
 use Rattle.walks.proofs.Ways.{way-empty, way-longer, way-shorter}
 use Rattle.tracing.specs.Steps.{SetterIs, WayEntered, NoWayWithin, noWalk, Traces}
@@ -35,7 +36,7 @@ module _ (t : Study) (v q left passed : ℕ) (steps : List ℕ) where
       still-none : NoWayWithin t v (preOf t i) (left - 1) → NoWayWithin t v q left
       still-none none list way =
           let s = way-shorter off way in
-          let same : s .last ≡ i = lawful .post-unique (s .last) i (s .usable) (setter .0) (s .var ∙ sym (setter .1)) (s .post ∙ sym (setter .2)) in
+          let same : s .last ≡ i = one-setter lawful (s .last) i (s .usable) (setter .0) (s .var ∙ sym (setter .1)) (s .post ∙ sym (setter .2)) in
           omega (arith, s .long, none (s .front) (rw same at (s .way)))
 
       module _ (inside : 16 * v + preOf t i < length steps) (after : List ℕ) {r : ℕ} where

@@ -6,6 +6,7 @@ use mathlib.Core.Logic.{_≢_}
 use mathlib.Core.List.{List}
 use lib.ListN.{length, getD}
 use Rattle.study.specs.Study.{Study}
+use Rattle.plans.specs.Plans.{Usable}
 use Rattle.orders.specs.Orders.{In, Distinct}
 use Rattle.walks.specs.Walks.{Way, Walk, OnAWalk, varOf, preOf, postOf, goalOf}
 use Rattle.planning.specs.Planning.{LowestWithout}
@@ -14,10 +15,10 @@ use Rattle.tracing.specs.declared.Named.the-variants.{Is, Nobody}
 use Rattle.tracing.specs.declared.Walked.{Walked}
 use Rattle.tracing.specs.declared.Walked.the-variants.{All, NoWalk}
 
--- the action that sets v to q, or that none does
+-- the usable action that sets v to q, or that none does
 abbrev pub SetterIs : Study → ℕ → ℕ → Named → Type 0
-SetterIs t v q (Is i) = (i < length (t .actions)) × (varOf t i ≡ v) × (postOf t i ≡ q)
-SetterIs t v q Nobody = (i : ℕ) → i < length (t .actions) → varOf t i ≡ v → postOf t i ≡ q → ⊥
+SetterIs t v q (Is i) = Usable t i × (varOf t i ≡ v) × (postOf t i ≡ q)
+SetterIs t v q Nobody = (i : ℕ) → Usable t i → varOf t i ≡ v → postOf t i ≡ q → ⊥
 
 -- row v of the table, for a list that leads from the start to q
 pub record RowTo (t : Study) (v : ℕ) (list : List ℕ) (q : ℕ) (steps : List ℕ) : Type 0 where

@@ -12,7 +12,7 @@ ghost use Rattle.tracing.specs.Steps.{SetterIs, noWalk, Traces, EmptyRow
 // A trace's answer where it broke off or came round.
 const NO_WALK: u8 = 255;
 
-// The action that sets a variable to a value, or that none does.
+// The action in force that sets a variable to a value, or that none does.
 pub enum Named {
     Is(usize),
     Nobody,
@@ -32,11 +32,8 @@ fn setter(setters: &[u8; 512], acts: &[[u8; 6]; 256], actions: usize, v: usize, 
     if actions <= i {
         return Named::Nobody;
     }
-    let act = tables::action_at(acts, i);
-    if tables::wide(act.var) == v {
-        if act.post == q {
-            return Named::Is(i);
-        }
+    if tables::sets_to(acts, i, v as u8, q) {
+        return Named::Is(i);
     }
     Named::Nobody
 }

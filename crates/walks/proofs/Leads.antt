@@ -1,12 +1,13 @@
--- Lists of actions that lead a variable from one value to another: joined, by their last action, and place by place; an action on a walk is one that may be used.
+-- Lists of actions that lead a variable from one value to another: joined, by their last action, and place by place; an action on a walk is one that may be used, so none out of force is.
 -- Assumes nothing.
-use mathlib.Core.Path.{_≡_, refl, sym, ap}
+use mathlib.Core.Path.{_≡_, refl, sym, ap, _∙_}
 use mathlib.Core.Logic.{_⊎_, inl, inr}
+use mathlib.Core.Bool.{false, true≢false}
 use mathlib.Core.List.{List, [], _∷_, _++_}
 use Prim.Native.Nat.{ℕ, zero, suc, _<_}
 use native.Mathlib.Omega.{arith}
 use lib.ListN.{length, getD, take}
-use Rattle.study.specs.Study.{Study}
+use Rattle.study.specs.Study.{Study, inForce, actionAt}
 use Rattle.plans.specs.Plans.{Usable}
 use Rattle.orders.specs.Orders.{In}
 use Rattle.walks.specs.Walks.{varOf, preOf, postOf, startOf, goalOf, Leads, OnAWalk}
@@ -88,3 +89,6 @@ module _ (t : Study) (v : ℕ) where
 
 pub on-walk-usable : {t : Study} {i : ℕ} → OnAWalk t i → Usable t i
 on-walk-usable {t} {i} o = leads-in t (varOf t i) (startOf t (varOf t i)) (o .list) (goalOf t (varOf t i)) (o .walk .leads) i (o .on) .0
+
+pub out-of-force-on-no-walk : {t : Study} {i : ℕ} → inForce (t .situation) (actionAt (t .actions) i) ≡ false → OnAWalk t i → ⊥
+out-of-force-on-no-walk out o = true≢false (sym (on-walk-usable o .in-force) ∙ out)

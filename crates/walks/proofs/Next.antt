@@ -8,10 +8,11 @@ use mathlib.Core.List.{List}
 use lib.ListN.{length, getD}
 use Rattle.study.specs.Study.{Study}
 use Rattle.lawful.specs.Lawful.{Lawful}
+use Rattle.plans.proofs.Usable.{one-setter}
 use Rattle.orders.proofs.Lists.{in-has-place}
 use Rattle.walks.specs.Walks.{varOf, preOf, postOf, Walk, OnAWalk}
 use Rattle.walks.proofs.Leads.{on-walk-usable}
-use Rattle.walks.proofs.Unique.{walk-there, walk-var, walk-first, walk-next}
+use Rattle.walks.proofs.Unique.{walk-usable, walk-var, walk-first, walk-next}
 
 -- j is the next after i on the walk of i's variable
 pub record NextOnWalk (t : Study) (i j : ℕ) : Type 0 where
@@ -38,7 +39,7 @@ module _ {t : Study} (lawful : Lawful t) {i j : ℕ} (on-i : OnAWalk t i) (on-j 
         place = k;
         there = h;
         one =
-            lawful .post-unique (getD (on-j .list) k 0) i (walk-there walk k (omega arith)) (on-walk-usable on-i) (walk-var walk k (omega arith))
+            one-setter lawful (getD (on-j .list) k 0) i (walk-usable walk k (omega arith)) (on-walk-usable on-i) (walk-var walk k (omega arith))
             (sym (walk-next walk k h) ∙ ap (preOf t) e ∙ sym leaves);
         other = e;
       }

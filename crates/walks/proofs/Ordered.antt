@@ -14,6 +14,7 @@ use Rattle.walks.specs.Walks.{varOf, preOf, postOf, conditionsOf, startO
 use Rattle.walks.proofs.Leads.{on-walk-usable}
 use Rattle.walks.proofs.Unique.{walk-unique}
 use Rattle.plans.proofs.States.{after-length, start-value, start-length}
+use Rattle.plans.proofs.Usable.{one-setter}
 use Rattle.walks.proofs.Wanted.{wanted-holds, wanted-there, wanted-other}
 use Rattle.walks.proofs.Steps.{runs-usable, none-again-in, Then, own, other, then-own, then, StepsOn, steps-on, Setter, setter-more, wanted-set, left-not-wanted}
 
@@ -61,7 +62,7 @@ module _ {t : Study} (lawful : Lawful t) {list : List ℕ} {e : State} where
       from : (postOf t y ≡ startOf t (varOf t y)) ⊎ Setter t taken (varOf t y) (postOf t y) → taken y
       from (inl k) = absurd (o .walk .ends-at-start y (o .on) k)
       from (inr k) =
-          let same : k .by ≡ y = lawful .post-unique (k .by) y (f .usable (k .by) (k .one)) (on-walk-usable o) (k .var) (k .post) in
+          let same : k .by ≡ y = one-setter lawful (k .by) y (f .usable (k .by) (k .one)) (on-walk-usable o) (k .var) (k .post) in
           rw same at (k .one)
 
   -- the list is of the actions on walks
@@ -76,11 +77,11 @@ module _ {t : Study} (lawful : Lawful t) {list : List ℕ} {e : State} where
     }
       where
         left : valueOf (after s (actionAt (t .actions) x)) (varOf t x) ≢ preOf t x
-        left g = lawful .action x (f .runs .0) .changes (sym g ∙ then-own lawful s (f .full) x (f .runs .0))
+        left g = lawful .action x (f .runs .0 .there) .changes (sym g ∙ then-own lawful s (f .full) x (f .runs .0))
 
         no-longer : (y : ℕ) → Wants (conditionsOf t y) (varOf t x) (preOf t x) → taken y ⊎ In y (x ∷ rest) → taken y
         no-longer y w (inl h) = h
-        no-longer y w (inr (inl d)) = absurd (wanted-other (lawful .action x (f .runs .0) .conditions) (varOf t x) (preOf t x) (rw d at w) refl)
+        no-longer y w (inr (inl d)) = absurd (wanted-other (lawful .action x (f .runs .0 .there) .conditions) (varOf t x) (preOf t x) (rw d at w) refl)
         no-longer y w (inr (inr h)) =
             let g = step f in
             absurd (
@@ -116,7 +117,7 @@ module _ {t : Study} (lawful : Lawful t) {list : List ℕ} (straight : StraightP
 
   on-walk : (i : ℕ) → In i list → OnAWalk t i
   on-walk i h =
-      let there : varOf t i < length (t .tasks) = omega (arith, lawful .action i (usable i h) .has-pre .there, lawful .a-task-each) in
+      let there : varOf t i < length (t .tasks) = omega (arith, lawful .action i (usable i h .there) .has-pre .there, lawful .a-task-each) in
       record { there = there; list = steps (varOf t i) .list; walk = walk-of (varOf t i) there; on = steps (varOf t i) .all i h refl }
 
   on-list : (i : ℕ) → OnAWalk t i → In i list
@@ -128,7 +129,7 @@ module _ {t : Study} (lawful : Lawful t) {list : List ℕ} (straight : StraightP
   pub straight-met : Met t
   straight-met i o v q w = record {
     list = steps v .list;
-    walk = walk-of v (omega (arith, wanted-there (lawful .action i (on-walk-usable o) .conditions) v q w, lawful .a-task-each));
+    walk = walk-of v (omega (arith, wanted-there (lawful .action i (on-walk-usable o .there) .conditions) v q w, lawful .a-task-each));
     value = from (wanted-set lawful v q (startState t) (start-length t) list (straight .plan .end) (straight .plan .runs) i (on-list i o) w);
   }
     where

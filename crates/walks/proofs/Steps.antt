@@ -54,7 +54,7 @@ module _ {t : Study} (lawful : Lawful t) where
   pub then-own :
       (s : State) → length s ≡ length (t .tasks) → (x : ℕ) → Usable t x
       → valueOf (after s (actionAt (t .actions) x)) (varOf t x) ≡ postOf t x
-  then-own s full x u = after-own s (actionAt (t .actions) x) (omega (arith, lawful .action x u .has-pre .there, lawful .a-task-each))
+  then-own s full x u = after-own s (actionAt (t .actions) x) (omega (arith, lawful .action x (u .there) .has-pre .there, lawful .a-task-each))
 
   pub then : (s : State) → length s ≡ length (t .tasks) → (x : ℕ) → Usable t x → (v : ℕ) → Then t s x v
   then s full x u v = from (ℕ-discrete (varOf t x) v)

@@ -14,6 +14,7 @@ use Rattle.orders.specs.Orders.{Distinct, None, Plus, Ready, OrderFrom, Order}
 use Rattle.walks.specs.Walks.{Walk, OnAWalk, Wants, ComesBefore, next, sets, leaves, Walks, Met, varOf, preOf, postOf, conditionsOf}
 use Rattle.orders.proofs.Lists.{in-has-place, distinct-entries-differ}
 use Rattle.plans.proofs.States.{after-own, after-other, after-length, start-value, start-length}
+use Rattle.plans.proofs.Usable.{one-setter}
 use Rattle.walks.proofs.Leads.{on-walk-usable}
 use Rattle.walks.proofs.Wanted.{hold-wanted, wants-has}
 use Rattle.walks.proofs.Unique.{walk-unique, walk-distinct, walk-var, walk-next}
@@ -117,7 +118,7 @@ module _ {t : Study} {taken : ℕ → Type 0} {s : State} {past : List State} (k
     wanted-there v q h =
         omega (
           arith,
-          wants-has (t .counts) (conditionsOf t x) (lawful .action x (on-walk-usable (ready .is-member)) .conditions .has) v q h .there,
+          wants-has (t .counts) (conditionsOf t x) (lawful .action x (on-walk-usable (ready .is-member) .there) .conditions .has) v q h .there,
           lawful .a-task-each,
         )
 
@@ -201,7 +202,7 @@ module _ {t : Study} (lawful : Lawful t) {taken : ℕ → Type 0} {s : State} {p
       go : Dec (varOf t y ≡ varOf t x) → valueOf (stepped t s x) (varOf t y) ≢ postOf t y
       go (no o) e = never .0 (sym (after-other s (actionAt (t .actions) x) (varOf t y) o) ∙ e)
       go (yes f) e =
-          free (inl (lawful .post-unique y x (on-walk-usable on) (on-walk-usable (ready .is-member)) f
+          free (inl (one-setter lawful y x (on-walk-usable on) (on-walk-usable (ready .is-member)) f
           (sym e ∙ ap (valueOf (stepped t s x)) f ∙ after-own s (actionAt (t .actions) x) own-there)))
 
   pub kept-next : Kept t (Plus x taken) (stepped t s x) (s ∷ past)

@@ -4,7 +4,7 @@ use Prim.Native.Nat.{ℕ, zero, suc, _+_, _≤_, _<_}
 use native.Mathlib.Omega.{arith}
 use mathlib.Core.Path.{_≡_, refl, sym, ap, subst, _∙_}
 use mathlib.Core.Logic.{_⊎_, inl, inr, _≢_, _↔_}
-use mathlib.Core.Bool.{true, false, _&&_, and-eq-true-iff, true≢false}
+use mathlib.Core.Bool.{true, false, true≢false}
 use mathlib.Core.Option.{Option, none, some}
 use mathlib.Core.List.{List, [], _∷_, _++_, append-nil, append-assoc}
 use lib.Dec.{eqb}
@@ -12,9 +12,12 @@ use lib.ListN.{length}
 use borrow.Author.Tests.{eqb-true, eqb-false, eq-eqb, ne-eqb}
 use Rattle.plain.specs.Choose.{pick}
 use Rattle.plain.proofs.Tests.{picked}
-use Rattle.study.specs.Study.{Action, Study, actionAt}
+use Rattle.study.specs.Study.{Action, Study}
+use Rattle.study.specs.Reading.{setsTo}
+use Rattle.study.proofs.Setters.{SetsAt, sets-first, sets-later}
 use Rattle.lawful.specs.Lawful.{Lawful}
 use Rattle.plans.specs.Plans.{Usable}
+use Rattle.plans.proofs.Usable.{setter-usable, usable-sets, one-setter}
 use Rattle.orders.specs.Orders.{In, Distinct}
 use Rattle.orders.proofs.Lists.{distinct-below}
 use Rattle.walks.specs.Walks.{varOf, preOf, postOf, startOf, goalOf, Leads, Way, Walk}
@@ -25,43 +28,34 @@ use Rattle.walks.proofs.Unique.{walk-distinct}
 
 -- ---- who sets a value
 
--- action i of the list, counted from k, sets it
-record SetBy (k : ℕ) (actions : List Action) (v q i : ℕ) : Type 0 where
+-- action i, where the first of the list is number k, is in force and sets it
+record SetBy (situation k : ℕ) (actions : List Action) (v q i : ℕ) : Type 0 where
   at : ℕ
-  there : at < length actions
   is : i ≡ k + at
-  var : actionAt actions at .var ≡ v
-  post : actionAt actions at .post ≡ q
+  sets : SetsAt situation actions v q at
 
-data Setter (k : ℕ) (actions : List Action) (v q : ℕ) : Option ℕ → Type 0 where
-  set-by : {i : ℕ} → SetBy k actions v q i → Setter k actions v q (some i)
-  set-by-none :
-      ((j : ℕ) → j < length actions → actionAt actions j .var ≡ v → actionAt actions j .post ≡ q → ⊥) → Setter k actions v q none
+data Setter (situation k : ℕ) (actions : List Action) (v q : ℕ) : Option ℕ → Type 0 where
+  set-by : {i : ℕ} → SetBy situation k actions v q i → Setter situation k actions v q (some i)
+  set-by-none : ((j : ℕ) → SetsAt situation actions v q j → ⊥) → Setter situation k actions v q none
 
-setter-tells : (k : ℕ) (actions : List Action) (v q : ℕ) → Setter k actions v q (setterFrom k actions v q)
+setter-tells : (situation k : ℕ) (actions : List Action) (v q : ℕ) → Setter situation k actions v q (setterFrom situation k actions v q)
 unfolding setterFrom
-setter-tells k [] v q = set-by-none (λ j h. absurd (omega arith))
-setter-tells k (a ∷ rest) v q =
-    picked (Setter k (a ∷ rest) v q) (eqb (a .var) v && eqb (a .post) q) here (λ n. later n (setter-tells (suc k) rest v q))
+setter-tells situation k [] v q = set-by-none (λ j s. omega (arith, s .there))
+setter-tells situation k (a ∷ rest) v q =
+    picked (Setter situation k (a ∷ rest) v q) (setsTo situation a v q) here (λ n. later n (setter-tells situation (suc k) rest v q))
   where
-    here : (eqb (a .var) v && eqb (a .post) q) ≡ true → Setter k (a ∷ rest) v q (some k)
-    here e =
-        let t = and-eq-true-iff (eqb (a .var) v) (eqb (a .post) q) .0 e in
-        set-by {i = k} (record { at = 0; there = omega arith; is = omega arith; var = eqb-true (a .var) v (t .0); post = eqb-true (a .post) q (t .1) })
-
-    not-here : (eqb (a .var) v && eqb (a .post) q) ≡ false → a .var ≡ v → a .post ≡ q → ⊥
-    not-here e f g = true≢false (sym (and-eq-true-iff (eqb (a .var) v) (eqb (a .post) q) .1 (eq-eqb (a .var) v f, eq-eqb (a .post) q g)) ∙ e)
+    here : setsTo situation a v q ≡ true → Setter situation k (a ∷ rest) v q (some k)
+    here e = set-by {i = k} (record { at = 0; is = omega arith; sets = sets-first situation a rest v q .0 e })
 
     nobody :
-        (eqb (a .var) v && eqb (a .post) q) ≡ false
-        → ((j : ℕ) → j < length rest → actionAt rest j .var ≡ v → actionAt rest j .post ≡ q → ⊥)
-        → (j : ℕ) → j < length (a ∷ rest) → actionAt (a ∷ rest) j .var ≡ v → actionAt (a ∷ rest) j .post ≡ q → ⊥
-    nobody e no-one zero h = not-here e
-    nobody e no-one (suc j) h = no-one j (omega arith)
+        setsTo situation a v q ≡ false → ((j : ℕ) → SetsAt situation rest v q j → ⊥)
+        → (j : ℕ) → SetsAt situation (a ∷ rest) v q j → ⊥
+    nobody e no-one zero s = true≢false (sym (sets-first situation a rest v q .1 s) ∙ e)
+    nobody e no-one (suc j) s = no-one j (sets-later situation a rest v q j .1 s)
 
-    later : (eqb (a .var) v && eqb (a .post) q) ≡ false → {o : Option ℕ} → Setter (suc k) rest v q o → Setter k (a ∷ rest) v q o
+    later : setsTo situation a v q ≡ false → {o : Option ℕ} → Setter situation (suc k) rest v q o → Setter situation k (a ∷ rest) v q o
     later e (set-by {i = i} s) =
-        set-by {i = i} (record { at = suc (s .at); there = omega (arith, s .there); is = omega (arith, s .is); var = s .var; post = s .post })
+        set-by {i = i} (record { at = suc (s .at); is = omega (arith, s .is); sets = sets-later situation a rest v q (s .at) .0 (s .sets) })
     later e (set-by-none no-one) = set-by-none (nobody e no-one)
 
 -- ---- what a trace tells
@@ -74,7 +68,7 @@ pub record Back (t : Study) (v q : ℕ) (found : List ℕ) : Type 0 where
 pub data Tells (t : Study) (v : ℕ) : Trace → Type 0 where
   -- the start is met
   met : {w : List ℕ} → Walk t v w → Tells t v (meets w)
-  -- a value on the way that no action sets
+  -- a value on the way that no action in force sets
   unset :
       {q : ℕ} {found : List ℕ} → Back t v q found → q ≢ startOf t v
       → ((i : ℕ) → Usable t i → varOf t i ≡ v → postOf t i ≡ q → ⊥) → Tells t v (breaks q)
@@ -87,21 +81,21 @@ module _ (t : Study) (v : ℕ) where
   unfolding tracedBack
   back-tells zero q found back long =
       round back
-      (λ d. omega (arith, distinct-below found (length (t .actions)) d (λ i h. leads-in t v q found (goalOf t v) (back .leads) i h .0)))
+      (λ d. omega (arith, distinct-below found (length (t .actions)) d (λ i h. leads-in t v q found (goalOf t v) (back .leads) i h .0 .there)))
   back-tells (suc n) q found back long =
       picked (Tells t v) (eqb q (startOf t v))
       (λ e. met (record { leads = rw (eqb-true q (startOf t v) e) at (back .leads); ends-at-start = back .new }))
-      (λ e. on (eqb-false q (startOf t v) e) (setter-tells 0 (t .actions) v q) (λ i longer. back-tells n (preOf t i) (i ∷ found) longer (omega arith)))
+      (λ e. on (eqb-false q (startOf t v) e) (setter-tells (t .situation) 0 (t .actions) v q) (λ i longer. back-tells n (preOf t i) (i ∷ found) longer (omega arith)))
     where
-      on : q ≢ startOf t v → {o : Option ℕ} → Setter 0 (t .actions) v q o
+      on : q ≢ startOf t v → {o : Option ℕ} → Setter (t .situation) 0 (t .actions) v q o
           → ((i : ℕ) → Back t v (preOf t i) (i ∷ found) → Tells t v (tracedBack t v n (preOf t i) (i ∷ found)))
           → Tells t v (backBy o q (λ i. tracedBack t v n (preOf t i) (i ∷ found)))
-      on away (set-by-none no-one) further = unset back away no-one
+      on away (set-by-none no-one) further = unset back away (λ i u e f. no-one i (usable-sets u e f))
       on away (set-by {i = i} s) further =
           let is : i ≡ s .at = omega (arith, s .is) in
-          let post : postOf t i ≡ q = rw is (s .post) in
+          let post : postOf t i ≡ q = rw is (s .sets .post) in
           further i (record {
-            leads = (rw is (s .there), (rw is (s .var), (refl, rw (← post) at (back .leads))));
+            leads = (rw is (setter-usable (s .sets)), (rw is (s .sets .var), (refl, rw (← post) at (back .leads))));
             new = λ j h. elim h [ inl e ↦ rw (e, post) away | inr g ↦ back .new j g ];
           })
 
@@ -122,7 +116,7 @@ module _ (t : Study) (v : ℕ) where
             → ((p : ℕ) (f g : List ℕ) → Way t v p f → length f < n → tracedBack t v n p g ≡ meets (f ++ g))
             → pick (eqb q (startOf t v)) (meets found) (backBy (setterOf t v q) q (λ i. tracedBack t v n (preOf t i) (i ∷ found))) ≡ meets (front ++ found)
         go (inl (n, e)) on = rw (eq-eqb q (startOf t v) (sym e), n)
-        go (inr s) on = rw (ne-eqb q (startOf t v) (s .off)) (back (setter-tells 0 (t .actions) v q))
+        go (inr s) on = rw (ne-eqb q (startOf t v) (s .off)) (back (setter-tells (t .situation) 0 (t .actions) v q))
           where
             before-last : tracedBack t v n (preOf t (s .last)) (s .last ∷ found) ≡ meets (front ++ found)
             before-last =
@@ -130,18 +124,18 @@ module _ (t : Study) (v : ℕ) where
                 ∙ ap meets (sym (ap (λ (f : List ℕ). f ++ found) (s .is) ∙ append-assoc (s .front) (s .last ∷ []) found))
 
             back :
-                {o : Option ℕ} → Setter 0 (t .actions) v q o
+                {o : Option ℕ} → Setter (t .situation) 0 (t .actions) v q o
                 → backBy o q (λ i. tracedBack t v n (preOf t i) (i ∷ found)) ≡ meets (front ++ found)
-            back (set-by-none no-one) = absurd (no-one (s .last) (s .usable) (s .var) (s .post))
+            back (set-by-none no-one) = absurd (no-one (s .last) (usable-sets (s .usable) (s .var) (s .post)))
             back (set-by {i = i} b) =
-                let e : b .at ≡ s .last = lawful .post-unique (b .at) (s .last) (b .there) (s .usable) (b .var ∙ sym (s .var)) (b .post ∙ sym (s .post)) in
+                let e : b .at ≡ s .last = one-setter lawful (b .at) (s .last) (setter-usable (b .sets)) (s .usable) (b .sets .var ∙ sym (s .var)) (b .sets .post ∙ sym (s .post)) in
                 let f : i ≡ s .last = omega (arith, b .is) in
                 rw f before-last
 
     walk-short : (w : List ℕ) → Walk t v w → length w ≤ length (t .actions)
     walk-short w walk =
         distinct-below w (length (t .actions)) (walk-distinct lawful walk)
-        (λ i h. leads-in t v (startOf t v) w (goalOf t v) (walk .leads) i h .0)
+        (λ i h. leads-in t v (startOf t v) w (goalOf t v) (walk .leads) i h .0 .there)
 
     pub walk-traced : (w : List ℕ) → Walk t v w → trace t v ≡ meets w
     unfolding trace

@@ -6,6 +6,7 @@ use mathlib.Core.List.{List}
 use lib.ListN.{length, getD}
 use Rattle.study.specs.Study.{Study}
 use Rattle.lawful.specs.Lawful.{Lawful}
+use Rattle.plans.specs.Plans.{Usable}
 use Rattle.orders.specs.Orders.{Distinct}
 use Rattle.walks.specs.Walks.{Walk, varOf, preOf, postOf, startOf, goalOf}
 use Rattle.walks.proofs.Leads.{leads-each, leads-first, leads-next, leads-end, leads-nowhere}
@@ -20,8 +21,11 @@ module _ {t : Study} (lawful : Lawful t) {v : ℕ} where
 
 -- place by place: what an action of a walk leaves and sets
 module _ {t : Study} {v : ℕ} {xs : List ℕ} (walk : Walk t v xs) where
+  pub walk-usable : (k : ℕ) → k < length xs → Usable t (getD xs k 0)
+  walk-usable k h = leads-each t v (startOf t v) xs (goalOf t v) (walk .leads) k h .0
+
   pub walk-there : (k : ℕ) → k < length xs → getD xs k 0 < length (t .actions)
-  walk-there k h = leads-each t v (startOf t v) xs (goalOf t v) (walk .leads) k h .0
+  walk-there k h = walk-usable k h .there
 
   pub walk-var : (k : ℕ) → k < length xs → varOf t (getD xs k 0) ≡ v
   walk-var k h = leads-each t v (startOf t v) xs (goalOf t v) (walk .leads) k h .1

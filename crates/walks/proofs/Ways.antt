@@ -11,6 +11,7 @@ use Rattle.study.specs.Study.{Study}
 use Rattle.lawful.specs.Lawful.{Lawful}
 use Rattle.plans.specs.Plans.{Usable}
 use Rattle.orders.specs.Orders.{In, Distinct}
+use Rattle.plans.proofs.Usable.{one-setter}
 use Rattle.walks.specs.Walks.{Way, varOf, preOf, postOf, startOf}
 use Rattle.orders.proofs.Lists.{in-append-left, in-append-right, in-append-cases, in-take, entries-differ-distinct}
 use Rattle.walks.proofs.Leads.{leads-joined, Last, leads-last, leads-cut}
@@ -91,7 +92,7 @@ module _ {t : Study} (lawful : Lawful t) {v : ℕ} where
       from (inl (_, e)) (inr r) shorter = absurd (r .off (sym e))
       from (inr s) (inl (_, e)) shorter = absurd (s .off (sym e))
       from (inr s) (inr r) shorter =
-          let last : s .last ≡ r .last = lawful .post-unique (s .last) (r .last) (s .usable) (r .usable) (s .var ∙ sym (r .var)) (s .post ∙ sym (r .post)) in
+          let last : s .last ≡ r .last = one-setter lawful (s .last) (r .last) (s .usable) (r .usable) (s .var ∙ sym (r .var)) (s .post ∙ sym (r .post)) in
           let front : s .front ≡ r .front = shorter (preOf t (r .last)) (s .front) (r .front) (omega (arith, s .long)) (rw last at (s .way)) (r .way) in
           rw (s .is, r .is, last, front)
 

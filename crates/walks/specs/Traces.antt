@@ -1,24 +1,24 @@
--- The walk of a variable as document 01 traces it: from the goal value back, the one action that sets the value, then its pre, until the start value is met. There is none if some value on the way is set by no action, or if the trace comes round without meeting the start.
+-- The walk of a variable as document 01 traces it: from the goal value back, the one action in force that sets the value, then its pre, until the start value is met. There is none if some value on the way is set by no action in force, or if the trace comes round without meeting the start.
 -- Assumes nothing.
 use Prim.Native.Nat.{ℕ, zero, suc}
-use mathlib.Core.Bool.{_&&_}
 use mathlib.Core.Option.{Option, none, some}
 use mathlib.Core.List.{List, [], _∷_}
 use lib.Dec.{eqb}
 use lib.ListN.{length}
 use Rattle.plain.specs.Choose.{pick}
 use Rattle.study.specs.Study.{Action, Study}
+use Rattle.study.specs.Reading.{setsTo}
 use Rattle.walks.specs.Walks.{preOf, startOf, goalOf}
 
--- the action that sets a variable to a value, if there is one, where the first is number k
-unfoldable pub setterFrom : ℕ → List Action → ℕ → ℕ → Option ℕ
-setterFrom k [] v q = none
-setterFrom k (a ∷ rest) v q = pick (eqb (a .var) v && eqb (a .post) q) (some k) (setterFrom (suc k) rest v q)
+-- the action in force that sets a variable to a value, if there is one, where the first is number k
+unfoldable pub setterFrom : ℕ → ℕ → List Action → ℕ → ℕ → Option ℕ
+setterFrom situation k [] v q = none
+setterFrom situation k (a ∷ rest) v q = pick (setsTo situation a v q) (some k) (setterFrom situation (suc k) rest v q)
 
 abbrev pub setterOf : Study → ℕ → ℕ → Option ℕ
-setterOf t v q = setterFrom 0 (t .actions) v q
+setterOf t v q = setterFrom (t .situation) 0 (t .actions) v q
 
--- what a trace comes to: the start is met by this walk; this value is set by no action; it comes round
+-- what a trace comes to: the start is met by this walk; this value is set by no action in force; it comes round
 pub data Trace : Type 0 where
   meets : List ℕ → Trace
   breaks : ℕ → Trace

@@ -6,7 +6,9 @@ use mathlib.Core.Bool.{Bool, true, false, _&&_}
 use mathlib.Core.List.{List, [], _∷_}
 use lib.Dec.{T}
 use lib.ListN.{length, getD}
+use Rattle.bits.specs.Bits
 use Rattle.records.specs.Records
+use Rattle.study.specs.Study
 use Rattle.study.specs.Reading
 use Rattle.ranking.specs.Ranking
 use Rattle.walks.specs.Traces
@@ -45,8 +47,8 @@ each-row (row ∷ rest) other t (suc k) h = each-row rest other (both-right (tes
 every-row-right : T (everyRow table)
 unfolding
     table Table.porter Table.pair Table.pairAndFree Table.round Table.lent test Rows.outcome
-    Reading.reading Reading.readOn Reading.verdictAt Reading.judged Reading.unless Reading.taken Reading.with
-    Reading.fault Reading.above Reading.sets Reading.mayFollow Reading.decoded
+    Reading.reading Reading.readOn Reading.verdictAt Reading.judged Reading.unless Reading.taken Reading.with Reading.placed
+    Reading.fault Reading.above Reading.sets Reading.repeatFrom Reading.mayFollow Reading.decoded Study.inForce Bits.bit
     Records.recordAt Records.recordOf Records.bodyLength Records.bodyLengths
     Ranking.tested Ranking.testedFrom Ranking.among
     Run.ran Run.runOn Run.failing Run.barred Run.held Run.away

@@ -17,6 +17,7 @@ fn numbers(number: u64, first: usize) -> Answer
 
 // Answer 0 gives the length of the file, which fills the first bytes.
 pub fn write(
+    situation: u8,
     variables: &[u8],
     actions: &[u8],
     conditions: &[u8],
@@ -24,17 +25,17 @@ pub fn write(
     seed: u32,
     file: &mut [u8],
 ) -> Answer
-    ensures { λ r. ⌜ WriteAllows (now (variables .entry)) (now (actions .entry)) (now (conditions .entry)) (now (tasks .entry)) seed
+    ensures { λ r. ⌜ WriteAllows situation (now (variables .entry)) (now (actions .entry)) (now (conditions .entry)) (now (tasks .entry)) seed
         (now (file .entry)) r (now (file .exit)) ⌝ }
 {
-    let judged = drafting::judge(variables, actions, conditions, tasks, seed);
+    let judged = drafting::judge(situation, variables, actions, conditions, tasks, seed);
     match judged {
         Judged::Refused { number, place } => numbers(number as u64, place),
         Judged::Good(length) => {
             if file.len() < length {
                 return numbers(13, length);
             }
-            writing::write(variables, actions, conditions, tasks, seed, file);
+            writing::write(situation, variables, actions, conditions, tasks, seed, file);
             numbers(0, length)
         }
     }

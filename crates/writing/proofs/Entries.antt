@@ -1,17 +1,21 @@
 -- The bytes of the records from an entry of a lent list on: those of the entry, and those from the next on.
 -- Assumes nothing.
-use mathlib.Core.Path.{_≡_}
-use mathlib.Core.List.{List, [], _∷_, _++_, map}
+use mathlib.Core.Path.{_≡_, refl}
+use mathlib.Core.Bool.{Bool, true, false}
+use mathlib.Core.List.{List, [], _∷_, _++_, map, append-nil}
 use Prim.Native.Nat.{ℕ, _+_, _*_, _-_, _≤_}
 use native.Mathlib.Omega.{arith}
+use lib.Dec.{eqb}
 use lib.ListN.{length, getD, take, drop, length-drop, drop-of-length-le}
 use lib.Seq.{drop-drop}
-use Rattle.study.specs.Reading.{variable}
+use Rattle.plain.specs.Choose.{pick}
+use Rattle.study.specs.Study.{always}
+use Rattle.study.specs.Reading.{Record, variable, times}
 use Rattle.spelling.specs.Spelling.{spelledRecord, spelled}
-use Rattle.spelling.specs.Lists.{conditionRecord, taskRecord, actionRecords}
+use Rattle.spelling.specs.Lists.{conditionRecord, taskRecord, timesRecord, actionRecords}
 use Rattle.spelling.specs.Lent.{conditionsIn, left, actionsIn, announced, errandsIn}
 use Rattle.spelling.proofs.Rewritten.{spelled-append}
-use Rattle.spelling.proofs.LentBytes.{one-byte, two-bytes, three-bytes, four-bytes, first-conditions, conditions-behind}
+use Rattle.spelling.proofs.LentBytes.{one-byte, two-bytes, three-bytes, five-bytes, first-conditions, conditions-behind}
 use Rattle.writing.proofs.Putting.{Starts}
 
 pub nothing-left : (l : List ℕ) (i : ℕ) → length l ≤ i → drop i l ≡ []
@@ -47,33 +51,49 @@ module _ (tasks : List ℕ) (i : ℕ) (h : i + 3 ≤ length tasks) where
   unfolding spelled spelledRecord errandsIn
   task-first = record { split = rw (three-bytes tasks i h) }
 
-module _ (actions : List ℕ) (i : ℕ) (h : i + 4 ≤ length actions) where
-  pub announced-first : announced (drop i actions) ≡ getD actions (i + 3) 0 + announced (drop (i + 4) actions)
-  unfolding announced
-  announced-first = rw (four-bytes actions i h)
+-- a record that may not be written
+pub unless-spelled : (b : Bool) (r : Record) → spelled (pick b [] (r ∷ [])) ≡ pick b [] (spelledRecord r)
+unfolding spelled
+unless-spelled true r = refl
+unless-spelled false r = append-nil (spelledRecord r)
 
-  -- its conditions end at a place
+-- .. of one byte, unless it is that one
+abbrev pub unlessBytes : ℕ → ℕ → ℕ → List ℕ
+unlessBytes unwritten kind n = pick (eqb n unwritten) [] (kind ∷ n ∷ [])
+
+module _ (actions : List ℕ) (i : ℕ) (h : i + 5 ≤ length actions) where
+  pub announced-first : announced (drop i actions) ≡ getD actions (i + 4) 0 + announced (drop (i + 5) actions)
+  unfolding announced
+  announced-first = rw (five-bytes actions i h)
+
+  -- its conditions end at a place, and behind them come its situations
   pub action-first :
-      (conditions : List ℕ) (used next : ℕ) → next ≡ used + 2 * getD actions (i + 3) 0 → next ≤ length conditions
+      (conditions : List ℕ) (used next : ℕ) → next ≡ used + 2 * getD actions (i + 4) 0 → next ≤ length conditions
       → Starts (actionsFrom actions conditions i used)
       (2 ∷ getD actions i 0 ∷ getD actions (i + 1) 0 ∷ getD actions (i + 2) 0 ∷ [])
-      (conditionsFrom (take (next - used) (drop used conditions)) 0 ++ actionsFrom actions conditions (i + 4) next)
+      (conditionsFrom (take (next - used) (drop used conditions)) 0
+      ++ (unlessBytes always 7 (getD actions (i + 3) 0) ++ actionsFrom actions conditions (i + 5) next))
   unfolding spelled spelledRecord actionRecords actionsIn
   action-first conditions used next e fits =
       record {
         split = rw (
-          four-bytes actions i h,
+          five-bytes actions i h,
           width,
           first-conditions many later (omega (arith, length-drop used conditions)),
           conditions-behind many later,
           drop-drop (2 * many) used conditions,
           ← e,
           spelled-append (map conditionRecord (conditionsIn (take (2 * many) later))) _,
+          spelled-append (timesRecord set) _,
+          unless-spelled (eqb set always) (times set),
         );
       }
     where
       many : ℕ
-      many = getD actions (i + 3) 0
+      many = getD actions (i + 4) 0
+
+      set : ℕ
+      set = getD actions (i + 3) 0
 
       later : List ℕ
       later = drop used conditions

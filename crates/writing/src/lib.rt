@@ -3,7 +3,9 @@ ghost use mathlib.Core.Path.{_≡_};
 ghost use mathlib.Core.List.{[], _∷_, _++_, map};
 ghost use Prim.Native.Nat.{_+_, _*_, _%_, _≤_};
 ghost use lib.ListN.{length, drop};
+ghost use lib.Dec.{eqb};
 ghost use lib.Seq.{sets};
+ghost use Rattle.plain.specs.Choose.{pick};
 ghost use Rattle.study.specs.Study.{Study};
 ghost use Rattle.study.specs.Reading.{variable, seed, end, says, reading};
 ghost use Rattle.spelling.specs.Spelling.{spelled};
@@ -72,9 +74,20 @@ fn put_conditions(conditions: &[u8], begin: usize, file: &mut [u8]) -> usize
     at
 }
 
-// Each action is followed by its conditions.
+// A record of one byte, unless that byte stands for one that is not written.
+fn put_unless(unwritten: u8, kind: u8, n: u8, at: usize, file: &mut [u8]) -> usize
+    requires { ⌜ Fits (pick (eqb n unwritten) [] (kind ∷ n ∷ [])) at (now file) ⌝ }
+    ensures { λ r. ⌜ Put (pick (eqb n unwritten) [] (kind ∷ n ∷ [])) at (now (file .entry)) (now (file .exit)) r ⌝ }
+{
+    if n == unwritten {
+        return at;
+    }
+    put_two(kind, n, at, file)
+}
+
+// Each action is followed by its conditions and its situations.
 fn put_actions(actions: &[u8], conditions: &[u8], begin: usize, file: &mut [u8]) -> usize
-    requires { ⌜ (length (now actions) % 4 ≡ 0) × (length (now conditions) ≡ 2 * announced (now actions))
+    requires { ⌜ (length (now actions) % 5 ≡ 0) × (length (now conditions) ≡ 2 * announced (now actions))
         × Fits (spelled (actionRecords (actionsIn (now actions) (conditionsIn (now conditions))))) begin (now file) ⌝ }
     ensures { λ r. ⌜ Put (spelled (actionRecords (actionsIn (now (actions .entry)) (conditionsIn (now (conditions .entry)))))) begin
         (now (file .entry)) (now (file .exit)) r ⌝ }
@@ -84,10 +97,11 @@ fn put_actions(actions: &[u8], conditions: &[u8], begin: usize, file: &mut [u8])
     let mut used = 0;
     while i < actions.len() {
         at = put_four(2, actions[i], actions[i + 1], actions[i + 2], at, file);
-        let next = used + 2 * tables::wide(actions[i + 3]);
+        let next = used + 2 * tables::wide(actions[i + 4]);
         at = put_conditions(&conditions[used..next], at, file);
+        at = put_unless(255, 7, actions[i + 3], at, file);
         used = next;
-        i += 4;
+        i += 5;
     }
     at
 }
@@ -123,6 +137,7 @@ fn put_last(n: u32, begin: usize, file: &mut [u8])
 
 // The file that the lists stand for fills the first bytes.
 pub fn write(
+    situation: u8,
     variables: &[u8],
     actions: &[u8],
     conditions: &[u8],
@@ -130,14 +145,15 @@ pub fn write(
     seed: u32,
     file: &mut [u8],
 )
-    requires { ⌜ ((s : Study) × (reading (fileOf (lent (now variables) (now actions) (now conditions) (now tasks) seed)) ≡ says s))
-        × (length (fileOf (lent (now variables) (now actions) (now conditions) (now tasks) seed)) ≤ length (now file)) ⌝ }
+    requires { ⌜ ((s : Study) × (reading (fileOf (lent situation (now variables) (now actions) (now conditions) (now tasks) seed)) ≡ says s))
+        × (length (fileOf (lent situation (now variables) (now actions) (now conditions) (now tasks) seed)) ≤ length (now file)) ⌝ }
     ensures { λ _. ⌜ now (file .exit)
-        ≡ fileOf (lent (now (variables .entry)) (now (actions .entry)) (now (conditions .entry)) (now (tasks .entry)) seed)
-        ++ drop (length (fileOf (lent (now (variables .entry)) (now (actions .entry)) (now (conditions .entry)) (now (tasks .entry)) seed)))
+        ≡ fileOf (lent situation (now (variables .entry)) (now (actions .entry)) (now (conditions .entry)) (now (tasks .entry)) seed)
+        ++ drop (length (fileOf (lent situation (now (variables .entry)) (now (actions .entry)) (now (conditions .entry)) (now (tasks .entry)) seed)))
         (now (file .entry)) ⌝ }
 {
-    let actions_at = put_variables(variables, 0, file);
+    let variables_at = put_unless(0, 8, situation, 0, file);
+    let actions_at = put_variables(variables, variables_at, file);
     let tasks_at = put_actions(actions, conditions, actions_at, file);
     let seed_at = put_tasks(tasks, tasks_at, file);
     put_last(seed, seed_at, file);

@@ -31,6 +31,9 @@ number-at-requires-4 c κs = search needs
 add-end : tie.Need-add-end
 add-end c = search needs
 
+shared-slice-read-write : tie.Need-shared-slice-read-write
+shared-slice-read-write c = search needs
+
 sub-write : tie.Need-sub-write
 sub-write c = search needs
 
@@ -80,7 +83,7 @@ returns : tie.Need-returns
 returns c =
     let w = c .before .before in
     let s = w .before .before in
-    let n4 = s .before .before .before .before .before in
+    let n4 = s .before .before .before .before .before .before in
     let n3 = n4 .before in
     let n2 = n3 .before in
     let n1 = n2 .before in
@@ -89,7 +92,7 @@ returns c =
     let second = n2 .number-at2 .ensures .1 in
     let third = n3 .number-at3 .ensures .1 in
     let fourth = n4 .number-at4 .ensures .1 in
-    let a = 12 + n1 .number-at .result in
+    let a = 13 + n1 .number-at .result in
     let b = a + n2 .number-at2 .result in
     let t = b + n3 .number-at3 .result in
     let e = t + n4 .number-at4 .result in
@@ -113,6 +116,7 @@ compose-spec =
     add-tasks
     number-at-requires-4
     add-end
+    shared-slice-read-write
     sub-write
     part-write-start
     part-write-end

@@ -39,14 +39,14 @@ array-share-prefix-file : tie.Need-array-share-prefix-file
 array-share-prefix-file c =
     let e = c .before .before .before .before .before in
     let made = e .before .before .before in
-    omega (arith, written-fits _ _ _ _ _ _ _ _ (e .if1 .left) (made .compose .ensures), made .compose .kept .1 .0)
+    omega (arith, written-fits _ _ _ _ _ _ _ _ _ (e .if1 .left) (made .compose .ensures), made .compose .kept .1 .0)
 
 slice-aggregate-write-all-3 : tie.Need-slice-aggregate-write-all-3
 slice-aggregate-write-all-3 c =
     let e = c .before .before .before .before .before .before in
     let made = e .before .before .before in
     sym (length-take-le (made .compose .result .first) (made .compose .last .1 .0)
-    (omega (arith, written-fits _ _ _ _ _ _ _ _ (e .if1 .left) (made .compose .ensures), made .compose .kept .1 .0)))
+    (omega (arith, written-fits _ _ _ _ _ _ _ _ _ (e .if1 .left) (made .compose .ensures), made .compose .kept .1 .0)))
 
 write-all-requires-3 : tie.Need-write-all-requires-3
 write-all-requires-3 c κs = search needs

@@ -11,6 +11,7 @@ use Rattle.judging.specs.Faults.{conditionFault}
 use Rattle.judging.proofs.Bounds.{condition-bounds}
 use Rattle.entering.specs.Steps.{afterCondition}
 use Rattle.pacing.proofs.Kept.{condition-kept}
+use Rattle.drafting.proofs.Turns.{not-far}
 use Rattle.drafting.proofs.OneRecord.{keeps-unless, condition-leads}
 use Rattle.drafting.proofs.LentBytes.{condition-lent, condition-unlent}
 use Rattle.drafting.proofs.judge_condition.Statement.{statement}
@@ -22,7 +23,7 @@ fault-of s v q = conditionFault (countColumn (now (s .args .rows))) (s .args .p 
 add-next : tie.Need-add-next
 add-next c =
     let (bounds, low, high, _) = c .before .before .pre in
-    omega (arith, bounds .short (omega arith), bounds .few-vars, bounds .few-actions, bounds .few-tasks, bounds .low)
+    omega (arith, not-far bounds (λ e. omega arith))
 
 sub-if1 : tie.Need-sub-if1
 sub-if1 c = search needs
@@ -38,7 +39,7 @@ returns c =
     rw (c .judge-condition .ensures, condition-unlent (now (a .conditions)) (a .i) (omega arith)) (
       keeps-unless (λ b. countColumn (now (a .rows))) _ (a .p) (afterCondition (a .p) 255 _) (fault-of s 255 255)
           (λ z. absurd (omega (arith, condition-bounds _ {v = 255} z .0, bounds .few-vars))),
-      λ file marks rest h. condition-leads 255 255 low high (bounds .some-action low high) h (fault-of s 255 255) refl,
+      λ file rest h. condition-leads 255 255 low high h (fault-of s 255 255) refl,
     )
 
 shared-slice-read-judge-condition : tie.Need-shared-slice-read-judge-condition
@@ -62,8 +63,8 @@ returns-2 c =
     let q = getD (now (a .conditions)) (a .i + 1) 0 in
     rw (c .judge-condition2 .ensures, condition-lent (now (a .conditions)) (a .i) (omega arith)) (
       keeps-unless (λ b. countColumn (now (a .rows))) _ (a .p) (afterCondition (a .p) v _) (fault-of s v q)
-          (λ z. (condition-kept bounds _ v q z low high refl, (refl, omega arith))),
-      λ file marks rest h. condition-leads v q low high (bounds .some-action low high) h (fault-of s v q) refl,
+          (λ z. (condition-kept bounds _ v q z low high refl, (refl, omega arith, refl))),
+      λ file rest h. condition-leads v q low high h (fault-of s v q) refl,
     )
 
 pub judge-condition-spec : {M : Type 1} → statement M

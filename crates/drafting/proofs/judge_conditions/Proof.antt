@@ -20,16 +20,16 @@ use Rattle.drafting.proofs.judge_conditions.Tie as tie
 abbrev Inv-loop : tie.InvT-loop
 Inv-loop many conditions used rows p₀ i₀ left₀ p i left =
     Bounds p (countColumn rows)
-    × (((2 ≤ p .last) × (p .last ≤ 3) × (i ≤ length conditions) × (i + 2 * left ≡ used + 2 * many))
-    × ((file marks : List ℕ) (rest : List Record)
-    → Drafted file (countColumn rows) marks p₀ (map conditionRecord (firstOf many (conditionsIn (drop used conditions))) ++ rest)
-    → Drafted file (countColumn rows) marks p (map conditionRecord (firstOf left (conditionsIn (drop i conditions))) ++ rest)))
+    × (((2 ≤ p .last) × (p .last ≤ 3) × (i ≤ length conditions) × (i + 2 * left ≡ used + 2 * many) × (p .actions ≡ p₀ .actions))
+    × ((file : List ℕ) (rest : List Record)
+    → Drafted file (countColumn rows) p₀ (map conditionRecord (firstOf many (conditionsIn (drop used conditions))) ++ rest)
+    → Drafted file (countColumn rows) p (map conditionRecord (firstOf left (conditionsIn (drop i conditions))) ++ rest)))
 
 abbrev μ-loop : tie.MeasureT-loop
 μ-loop many conditions used rows p₀ i₀ left₀ p i left = left
 
 loop-holds : tie.Need-loop-holds Inv-loop μ-loop
-loop-holds c = let (bounds, low, high, in-bytes) = c .before .pre in (bounds, ((low, high, in-bytes, refl), λ file marks rest h. h))
+loop-holds c = let (bounds, low, high, in-bytes) = c .before .pre in (bounds, ((low, high, in-bytes, refl, refl), λ file rest h. h))
 
 judge-condition-requires : tie.Need-judge-condition-requires Inv-loop μ-loop
 judge-condition-requires c κs = let (bounds, (sure, _)) = c .before .loop .inv in (bounds, sure .0, sure .1, sure .2)
@@ -42,8 +42,8 @@ returns c =
     let l = c .before .before .before .loop in
     let here : l .left ≡ l .left - 1 + 1 = omega arith in (
       stopped-keeps (c .match .keys2),
-      λ file marks rest h. stopped-leads (c .match .keys2)
-          (c .before .judge-condition .ensures .1 file marks _ (rw (next-condition _ (l .i) (l .left) (l .left - 1) rest here) at (l .inv .1 .1 file marks rest h))),
+      λ file rest h. stopped-leads (c .match .keys2)
+          (c .before .judge-condition .ensures .1 file _ (rw (next-condition _ (l .i) (l .left) (l .left - 1) rest here) at (l .inv .1 .1 file rest h))),
     )
 
 add-i : tie.Need-add-i Inv-loop μ-loop
@@ -63,8 +63,8 @@ loop-again c =
     let k = e .0 .on _ (c .before .step .given .1) in (
       k .0,
       (
-        (omega (arith, k .1 .0), omega (arith, k .1 .0), k .1 .1, omega (arith, l .inv .1 .0 .3)),
-        λ file marks rest h. e .1 file marks _ (rw (next-condition _ (l .i) (l .left) (l .left - 1) rest here) at (l .inv .1 .1 file marks rest h)) .on _ (c .before .step .given .1),
+        (omega (arith, k .1 .0), omega (arith, k .1 .0), k .1 .1, omega (arith, l .inv .1 .0 .3), omega (arith, k .1 .2, l .inv .1 .0 .4)),
+        λ file rest h. e .1 file _ (rw (next-condition _ (l .i) (l .left) (l .left - 1) rest here) at (l .inv .1 .1 file rest h)) .on _ (c .before .step .given .1),
       ),
     )
 
@@ -72,7 +72,7 @@ returns-2 : tie.Need-returns-2 Inv-loop μ-loop
 returns-2 c =
     let (bounds, (sure, reached)) = c .before .loop .inv in
     let none : c .before .loop .left ≡ 0 = omega arith in
-    (on-keeps bounds (sure .1, omega (arith, sure .3)), λ file marks rest h. on-leads (rw (none, no-condition) at (reached file marks rest h)))
+    (on-keeps bounds (sure .0, sure .1, omega (arith, sure .3), sure .4), λ file rest h. on-leads (rw (none, no-condition) at (reached file rest h)))
 
 pub judge-conditions-spec : {M : Type 1} → statement M
 judge-conditions-spec =

@@ -1,4 +1,4 @@
--- `drafting::judge_end` meets its contract: a seed whose turn it is not is refused with 3, any other by its fault; without one the end follows, and the file loads.
+-- `drafting::judge_end` meets its contract: a seed whose turn it is not is refused with 3, any other by its fault; without one the end follows: an action that repeats an earlier one is refused with 7, and without one the file loads.
 -- Assumes nothing.
 use mathlib.Core.Path.{_≡_, ap}
 use mathlib.Core.List.{List, [], _∷_}
@@ -12,15 +12,16 @@ use Rattle.entering.specs.Steps.{afterSeed}
 use Rattle.entering.proofs.Judged.{went-on}
 use Rattle.drafting.specs.Drafts.{Drafted, Leads}
 use Rattle.drafting.proofs.Stops.{stopped-judged}
-use Rattle.drafting.proofs.OneRecord.{out-of-turn, seed-leads, ends}
+use Rattle.drafting.proofs.OneRecord.{out-of-turn, seed-leads}
+use Rattle.drafting.proofs.Ends.{loads, repeats-there}
 use Rattle.drafting.proofs.judge_end.Statement.{statement}
 use Rattle.drafting.proofs.judge_end.Tie as tie
 
 leads :
-    (c : tie.After-on-seed) (file counts marks : List ℕ)
-    → Drafted file counts marks (c .before .before .before .before .before .args .p) (seed (c .before .before .before .before .before .args .n) ∷ end ∷ [])
-    → Leads file counts marks (end ∷ []) (c .on-seed .result)
-leads c file counts marks h =
+    (c : tie.After-on-seed) (file counts : List ℕ)
+    → Drafted file counts (c .before .before .before .before .before .args .p) (seed (c .before .before .before .before .before .args .n) ∷ end ∷ [])
+    → Leads file counts (end ∷ []) (c .on-seed .result)
+leads c file counts h =
     rw (c .on-seed .ensures) (seed-leads _ (not-left (c .before .before .before .may-follow .ensures) (c .before .before .if1 .left)) h)
 
 seeded :
@@ -34,7 +35,7 @@ may-follow-requires : tie.Need-may-follow-requires
 may-follow-requires c κs = search needs
 
 returns : tie.Need-returns
-returns c = λ file counts marks h. out-of-turn (seed _) h (not-taken (c .before .may-follow .ensures) (c .if1 .taken))
+returns c = λ l counts h repeated. out-of-turn (seed _) h (not-taken (c .before .may-follow .ensures) (c .if1 .taken))
 
 add-on-seed : tie.Need-add-on-seed
 add-on-seed c = search needs
@@ -49,14 +50,23 @@ refusal-requires : tie.Need-refusal-requires
 refusal-requires c κs = search needs
 
 returns-2 : tie.Need-returns-2
-returns-2 c = rw (c .refusal .ensures) (λ file counts marks h. stopped-judged _ (c .before .match .keys2) (leads (c .before .before) file counts marks h))
-
-add-t9 : tie.Need-add-t9
-add-t9 c = omega (arith, ap (λ p. p .at) (seeded (c .before .before)))
+returns-2 c = rw (c .refusal .ensures) (λ l counts h repeated. stopped-judged _ (c .before .match .keys2) (leads (c .before .before) _ counts h))
 
 returns-3 : tie.Need-returns-3
-returns-3 c = λ file counts marks h.
-    ends (leads (c .before .before .before .before) file counts marks h .on _ (c .before .before .step .given .1)) (ap (λ p. p .last) (seeded (c .before .before)))
+returns-3 c =
+    let o = c .before .before in
+    λ l counts h repeated.
+    repeats-there l (leads (o .before .before) _ counts h .on _ (o .step .given .1)) (ap (λ p. p .last) (seeded o)) repeated (c .if2 .taken)
+
+add-t10 : tie.Need-add-t10
+add-t10 c = omega (arith, ap (λ p. p .at) (seeded (c .before .before .before)))
+
+returns-4 : tie.Need-returns-4
+returns-4 c =
+    let f = c .before in
+    let o = f .before .before in
+    λ l counts h repeated.
+    loads l (leads (o .before .before) _ counts h .on _ (o .step .given .1)) (ap (λ p. p .last) (seeded o)) repeated (omega (arith, f .if2 .left))
 
 pub judge-end-spec : {M : Type 1} → statement M
 judge-end-spec =
@@ -69,5 +79,6 @@ judge-end-spec =
     enum-known-step
     refusal-requires
     returns-2
-    add-t9
-    returns-3)
+    returns-3
+    add-t10
+    returns-4)

@@ -1,9 +1,10 @@
--- `drafting::judge_entry` meets its contract: the action is judged, then the conditions that it takes.
+-- `drafting::judge_entry` meets its contract: the action is judged, then the conditions that it takes, then its situations.
 -- Assumes nothing.
 use native.Mathlib.Omega.{arith}
 use denote.Ref.{now}
 use borrow.Author.Needs.{needs}
-use Rattle.drafting.proofs.Stops.{stopped-keeps, stopped-leads}
+use Rattle.drafting.proofs.Turns.{not-far}
+use Rattle.drafting.proofs.Stops.{keeps-more, stopped-keeps, stopped-leads}
 use Rattle.drafting.proofs.LentBytes.{action-lent}
 use Rattle.drafting.proofs.judge_entry.Statement.{statement}
 use Rattle.drafting.proofs.judge_entry.Tie as tie
@@ -26,12 +27,12 @@ shared-slice-read-judge-action-3 c = search needs
 judge-action-requires : tie.Need-judge-action-requires
 judge-action-requires c κs = search needs
 
-enum-known-step : tie.Need-enum-known-step
-enum-known-step c = search needs
+enum-known-by-action : tie.Need-enum-known-by-action
+enum-known-by-action c = search needs
 
 returns : tie.Need-returns
 returns c =
-    let s = c .before .before .before .before .before .before .before .before in
+    let s = c .before .before .before .before .before .before .before in
     let a = s .args in (
       stopped-keeps (c .match .keys2),
       λ file rest h. stopped-leads (c .match .keys2)
@@ -46,15 +47,57 @@ shared-slice-read-judge-conditions c = search needs
 
 judge-conditions-requires : tie.Need-judge-conditions-requires
 judge-conditions-requires c κs =
-    let k = c .before .before .before .before .judge-action .ensures .0 .on _ (c .before .before .step .given .1) in
+    let b = c .before .before in
+    let k = b .before .before .judge-action .ensures .0 .on _ (b .by-action .given .1) in
     (k .0, omega (arith, k .1 .0), omega (arith, k .1 .0), search needs)
+
+enum-known-by-conditions : tie.Need-enum-known-by-conditions
+enum-known-by-conditions c = search needs
 
 returns-2 : tie.Need-returns-2
 returns-2 c =
-    let s = c .before .before .before .before .before .before .before .before .before .before .before .before in
+    let o = c .before in
+    let b = o .before .before .before in
+    let x = b .before .before in
+    let s = x .before .before .before .before .before .before in
+    let a = s .args in (
+      stopped-keeps (c .match2 .keys2),
+      λ file rest h. stopped-leads (c .match2 .keys2)
+          (o .judge-conditions .ensures .1 file _
+          (x .judge-action .ensures .1 file _ (rw (action-lent (now (a .actions)) (a .i) (now (a .conditions)) (a .used) rest (s .pre .2)) at h) .on _ (b .by-action .given .1))),
+    )
+
+add-judge-times : tie.Need-add-judge-times
+add-judge-times c =
+    let s = c .before .before .before .before .before .before .before .before .before .before .before .before .before .before in
+    omega (arith, s .pre .2)
+
+shared-slice-read-judge-times : tie.Need-shared-slice-read-judge-times
+shared-slice-read-judge-times c = search needs
+
+judge-times-requires : tie.Need-judge-times-requires
+judge-times-requires c κs =
+    let g = c .before .before in
+    let k = g .before .before .judge-conditions .ensures .0 .on _ (g .by-conditions .given .1) in
+    (k .1 .0, k .1 .1, not-far (k .0) (λ e. omega (arith, k .1 .1)))
+
+returns-3 : tie.Need-returns-3
+returns-3 c =
+    let g = c .before .before .before in
+    let o = g .before .before in
+    let b = o .before .before .before in
+    let x = b .before .before in
+    let s = x .before .before .before .before .before .before in
     let a = s .args in
-    let e = c .judge-conditions .ensures in
-    (e .0, λ file rest h. e .1 file _ _ (c .before .before .before .before .before .judge-action .ensures .1 file _ (rw (action-lent (now (a .actions)) (a .i) (now (a .conditions)) (a .used) rest (s .pre .2)) at h) .on _ (c .before .before .before .step .given .1)))
+    let k = o .judge-conditions .ensures .0 .on _ (g .by-conditions .given .1) in
+    let acted = x .judge-action .ensures .0 .on _ (b .by-action .given .1) in
+    let e = c .judge-times .ensures in (
+      keeps-more (e .0 _ (k .0)) (λ q w. (w .0, k .1 .2, omega (arith, w .1, k .1 .3, acted .1 .2))),
+      λ file rest h. e .1 file _ _
+          (o .judge-conditions .ensures .1 file _
+          (x .judge-action .ensures .1 file _ (rw (action-lent (now (a .actions)) (a .i) (now (a .conditions)) (a .used) rest (s .pre .2)) at h) .on _ (b .by-action .given .1))
+          .on _ (g .by-conditions .given .1)),
+    )
 
 pub judge-entry-spec : {M : Type 1} → statement M
 judge-entry-spec =
@@ -66,9 +109,14 @@ judge-entry-spec =
     add-judge-action-2
     shared-slice-read-judge-action-3
     judge-action-requires
-    enum-known-step
+    enum-known-by-action
     returns
     add-judge-conditions
     shared-slice-read-judge-conditions
     judge-conditions-requires
-    returns-2)
+    enum-known-by-conditions
+    returns-2
+    add-judge-times
+    shared-slice-read-judge-times
+    judge-times-requires
+    returns-3)

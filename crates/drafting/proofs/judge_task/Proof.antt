@@ -1,4 +1,4 @@
--- `drafting::judge_task` meets its contract: a task whose turn it is not is refused with 3, any other by its fault, and without one it leads on.
+-- `drafting::judge_task` meets its contract: a task that is not wanted is refused with 3, any other by its fault, and without one it leads on.
 -- Assumes nothing.
 use mathlib.Core.Path.{refl}
 use native.Mathlib.Omega.{arith}
@@ -8,24 +8,23 @@ use borrow.Author.Needs.{needs}
 use Rattle.tables.specs.Rows.{countColumn}
 use Rattle.study.specs.Reading.{task}
 use Rattle.judging.specs.Faults.{taskFault}
-use Rattle.judging.proofs.Tests.{not-taken, not-left}
 use Rattle.entering.specs.Steps.{afterTask}
 use Rattle.pacing.proofs.Kept.{task-kept}
+use Rattle.drafting.proofs.Turns.{task-early, task-wanted, no-task-wanted, next-task, not-far}
 use Rattle.drafting.proofs.Stops.{refused-keeps}
 use Rattle.drafting.proofs.OneRecord.{keeps-unless, not-in-turn, task-leads}
 use Rattle.drafting.proofs.judge_task.Statement.{statement}
 use Rattle.drafting.proofs.judge_task.Tie as tie
 
-may-follow-requires : tie.Need-may-follow-requires
-may-follow-requires c κs = search needs
-
 returns : tie.Need-returns
-returns c = (refused-keeps, λ file marks rest h. not-in-turn (task _ _ _) h (not-taken (c .before .may-follow .ensures) (c .if1 .taken)))
+returns c =
+    let p = c .before .before .args .p in
+    (refused-keeps, λ file rest h. not-in-turn (task _ _ _) h (no-task-wanted (p .last) (c .if1 .taken)))
 
 add-on-task : tie.Need-add-on-task
 add-on-task c =
-    let (bounds, low) = c .before .before .before .before .pre in
-    omega (arith, bounds .short low, bounds .few-vars, bounds .few-actions, bounds .few-tasks, bounds .low)
+    let (bounds, may) = c .before .before .before .pre in
+    omega (arith, not-far bounds (task-early may))
 
 on-task-requires : tie.Need-on-task-requires
 on-task-requires c κs = search needs
@@ -35,16 +34,16 @@ fault-of s = taskFault (countColumn (now (s .args .rows))) (s .args .p .vars) (s
 
 returns-2 : tie.Need-returns-2
 returns-2 c =
-    let s = c .before .before .before .before .before .before in
+    let f = c .before .before .before in
+    let s = f .before .before in
     let a = s .args in
-    let (bounds, low) = s .pre in
+    let (bounds, may) = s .pre in
     let e = c .on-task .ensures in
     rw (e .0, e .1 .0) (
       keeps-unless (λ b. countColumn (now (a .rows))) _ (a .p) (afterTask (a .p) _) (fault-of s)
-          (λ z. (task-kept bounds _ (a .v) (a .start) (a .goal) z low refl, omega arith)),
-      λ file marks rest h. task-leads (a .v) (a .start) (a .goal) (not-left (c .before .before .before .before .may-follow .ensures) (c .before .before .before .if1 .left)) h (fault-of s) refl,
+          (λ z. (task-kept bounds _ (a .v) (a .start) (a .goal) z (task-early may) refl, next-task refl)),
+      λ file rest h. task-leads (a .v) (a .start) (a .goal) (task-wanted (a .p .last) may (f .if1 .left)) h (fault-of s) refl,
     )
 
 pub judge-task-spec : {M : Type 1} → statement M
-judge-task-spec =
-    tie.close (tie.spec may-follow-requires returns add-on-task on-task-requires returns-2)
+judge-task-spec = tie.close (tie.spec returns add-on-task on-task-requires returns-2)

@@ -11,7 +11,7 @@ use Rattle.tables.specs.Rows.{countColumn}
 use Rattle.pacing.specs.Reads.{Bounds}
 use Rattle.spelling.specs.Lists.{taskRecord}
 use Rattle.spelling.specs.Lent.{errandsIn}
-use Rattle.drafting.specs.Drafts.{Drafted}
+use Rattle.drafting.specs.Drafts.{TasksGoOn, Drafted}
 use Rattle.drafting.proofs.Stops.{on-keeps, on-leads, stopped-keeps, stopped-leads}
 use Rattle.drafting.proofs.LentBytes.{task-lent, no-task, task-unlent}
 use Rattle.drafting.proofs.judge_tasks.Statement.{statement}
@@ -20,16 +20,16 @@ use Rattle.drafting.proofs.judge_tasks.Tie as tie
 abbrev Inv-loop : tie.InvT-loop
 Inv-loop tasks rows₀ p₀ i₀ rows p i =
     Bounds p (countColumn rows)
-    × (((p .last ≤ 4) × (i ≤ length tasks))
-    × ((file marks : List ℕ) (rest : List Record)
-    → Drafted file (countColumn rows₀) marks p₀ (map taskRecord (errandsIn tasks) ++ rest)
-    → Drafted file (countColumn rows) marks p (map taskRecord (errandsIn (drop i tasks)) ++ rest)))
+    × ((TasksGoOn (p .last) × (i ≤ length tasks))
+    × ((file : List ℕ) (rest : List Record)
+    → Drafted file (countColumn rows₀) p₀ (map taskRecord (errandsIn tasks) ++ rest)
+    → Drafted file (countColumn rows) p (map taskRecord (errandsIn (drop i tasks)) ++ rest)))
 
 abbrev μ-loop : tie.MeasureT-loop
 μ-loop tasks rows₀ p₀ i₀ rows p i = length tasks - i
 
 loop-holds : tie.Need-loop-holds Inv-loop μ-loop
-loop-holds c = let (bounds, low) = c .before .pre in (bounds, ((low, omega arith), λ file marks rest h. h))
+loop-holds c = let (bounds, low) = c .before .pre in (bounds, ((low, omega arith), λ file rest h. h))
 
 sub-loop : tie.Need-sub-loop Inv-loop μ-loop
 sub-loop c = search needs
@@ -60,8 +60,8 @@ returns c =
     let l = c .before .before .before .before .before .before .before .loop in
     let here : l .i + 3 ≤ length (now (c .before .before .before .before .before .before .before .before .before .args .tasks)) = omega arith in (
       stopped-keeps (c .match .keys2),
-      λ file marks rest h. stopped-leads (c .match .keys2)
-          (c .before .judge-task .ensures .1 file marks _ (rw (task-lent _ (l .i) rest here) at (l .inv .1 .1 file marks rest h))),
+      λ file rest h. stopped-leads (c .match .keys2)
+          (c .before .judge-task .ensures .1 file _ (rw (task-lent _ (l .i) rest here) at (l .inv .1 .1 file rest h))),
     )
 
 add-i : tie.Need-add-i Inv-loop μ-loop
@@ -79,7 +79,7 @@ loop-again c =
       k .0,
       (
         (k .1, omega arith),
-        λ file marks rest h. e .1 file marks _ (rw (task-lent _ (l .i) rest here) at (l .inv .1 .1 file marks rest h)) .on _ (c .before .step .given .1),
+        λ file rest h. e .1 file _ (rw (task-lent _ (l .i) rest here) at (l .inv .1 .1 file rest h)) .on _ (c .before .step .given .1),
       ),
     )
 
@@ -87,7 +87,7 @@ returns-2 : tie.Need-returns-2 Inv-loop μ-loop
 returns-2 c =
     let l = c .before .before .loop in
     let here : length (now (c .before .before .before .before .args .tasks)) ≤ l .i = omega arith in
-    (on-keeps (l .inv .0) (l .inv .1 .0 .0), λ file marks rest h. on-leads (rw (no-task _ (l .i) rest here) at (l .inv .1 .1 file marks rest h)))
+    (on-keeps (l .inv .0) (l .inv .1 .0 .0), λ file rest h. on-leads (rw (no-task _ (l .i) rest here) at (l .inv .1 .1 file rest h)))
 
 judge-task-requires-2 : tie.Need-judge-task-requires-2 Inv-loop μ-loop
 judge-task-requires-2 c κs = let i = c .before .before .before .loop .inv in (i .0, i .1 .0 .0)
@@ -100,7 +100,7 @@ returns-3 c =
     let few : length (now (s .args .tasks)) < l .i + 3 = omega arith in
     let e = c .judge-task2 .ensures in (
       e .0,
-      λ file marks rest h. e .1 file marks rest (rw (task-unlent _ (l .i) rest some few) at (l .inv .1 .1 file marks rest h)),
+      λ file rest h. e .1 file rest (rw (task-unlent _ (l .i) rest some few) at (l .inv .1 .1 file rest h)),
     )
 
 pub judge-tasks-spec : {M : Type 1} → statement M

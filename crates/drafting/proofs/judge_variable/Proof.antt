@@ -10,14 +10,15 @@ use Rattle.tables.specs.Rows.{countColumn}
 use Rattle.judging.specs.Faults.{variableFault}
 use Rattle.entering.specs.Steps.{afterVariable}
 use Rattle.pacing.proofs.Kept.{variable-kept}
+use Rattle.drafting.proofs.Turns.{variable-early, not-far}
 use Rattle.drafting.proofs.OneRecord.{keeps-unless, variable-leads}
 use Rattle.drafting.proofs.judge_variable.Statement.{statement}
 use Rattle.drafting.proofs.judge_variable.Tie as tie
 
 add-on-variable : tie.Need-add-on-variable
 add-on-variable c =
-    let (bounds, low) = c .before .pre in
-    omega (arith, bounds .short (omega arith), bounds .few-vars, bounds .few-actions, bounds .few-tasks, bounds .low)
+    let (bounds, may) = c .before .pre in
+    omega (arith, not-far bounds (variable-early may))
 
 on-variable-requires : tie.Need-on-variable-requires
 on-variable-requires c κs = search needs
@@ -26,13 +27,13 @@ returns : tie.Need-returns
 returns c =
     let s = c .before .before .before in
     let a = s .args in
-    let (bounds, low) = s .pre in
+    let (bounds, may) = s .pre in
     let e = c .on-variable .ensures in
     let counts = countColumn (now (a .rows)) in
     rw (e .0, e .1 .0) (
       keeps-unless (λ b. pick b (set counts (a .p .vars) (a .n)) counts) _ (a .p) (afterVariable (a .p) _) (variableFault (a .p .vars) (a .n))
-          (λ z. (variable-kept bounds _ (a .n) z low refl, omega arith)),
-      λ file marks rest h. variable-leads (a .n) low h,
+          (λ z. (variable-kept bounds _ (a .n) z (variable-early may) refl, (refl, omega arith))),
+      λ file rest h. variable-leads (a .n) may h,
     )
 
 pub judge-variable-spec : {M : Type 1} → statement M

@@ -1,6 +1,6 @@
--- `drafting::judge_variables` meets its contract: each turn judges one variable, and those behind it come next.
+-- `drafting::judge_variables` meets its contract: each turn judges one variable, and those behind it come next; without one, what comes behind them is out of turn.
 -- Assumes nothing.
-use Prim.Native.Nat.{ℕ, _+_, _-_, _≤_, _<_}
+use Prim.Native.Nat.{ℕ, _-_, _≤_}
 use denote.Ref.{now}
 use native.Mathlib.Omega.{arith}
 use mathlib.Core.List.{List, _++_, map}
@@ -10,26 +10,37 @@ use borrow.Author.Needs.{needs}
 use mathlib.Core.Path.{_≡_}
 use Rattle.study.specs.Reading.{Record, variable}
 use Rattle.tables.specs.Rows.{countColumn}
-use Rattle.pacing.specs.Reads.{Bounds, origin}
-use Rattle.drafting.specs.Drafts.{Drafted}
-use Rattle.drafting.proofs.Stops.{on-keeps, on-leads, stopped-keeps, stopped-leads}
-use Rattle.drafting.proofs.LentBytes.{variable-lent}
+use Rattle.pacing.specs.Reads.{Bounds}
+use Rattle.drafting.specs.Drafts.{VariablesGoOn, Drafted}
+use Rattle.drafting.proofs.Turns.{first-variable, next-variable}
+use Rattle.drafting.proofs.Stops.{on-keeps, on-leads, refused-keeps, stopped-keeps, stopped-leads}
+use Rattle.drafting.proofs.OneRecord.{no-variable}
+use Rattle.drafting.proofs.LentBytes.{variable-lent, no-variable-lent}
 use Rattle.drafting.proofs.judge_variables.Statement.{statement}
 use Rattle.drafting.proofs.judge_variables.Tie as tie
 
 abbrev Inv-loop : tie.InvT-loop
 Inv-loop variables rows₀ p₀ i₀ rows p i =
     Bounds p (countColumn rows)
-    × (((p .last ≤ 1) × (i ≤ length variables))
-    × ((file marks : List ℕ) (rest : List Record)
-    → Drafted file (countColumn rows₀) marks origin (map variable variables ++ rest)
-    → Drafted file (countColumn rows) marks p (map variable (drop i variables) ++ rest)))
+    × ((VariablesGoOn (p .last) × (1 ≤ i → (p .last ≡ 1) × (1 ≤ p .at)) × (i ≤ length variables))
+    × ((file : List ℕ) (rest : List Record)
+    → Drafted file (countColumn rows₀) p₀ (map variable variables ++ rest)
+    → Drafted file (countColumn rows) p (map variable (drop i variables) ++ rest)))
 
 abbrev μ-loop : tie.MeasureT-loop
 μ-loop variables rows₀ p₀ i₀ rows p i = length variables - i
 
+returns : tie.Need-returns Inv-loop μ-loop
+returns c =
+    let s = c .before .before in (
+      refused-keeps,
+      λ file rest behind h. no-variable rest behind (s .pre .1) (rw (no-variable-lent _ rest (c .if1 .taken)) at h),
+    )
+
 loop-holds : tie.Need-loop-holds Inv-loop μ-loop
-loop-holds c = (search needs, ((omega arith, omega arith), λ file marks rest h. h))
+loop-holds c =
+    let (bounds, none) = c .before .before .pre in
+    (bounds, ((first-variable none, λ h. absurd (omega arith), omega arith), λ file rest h. h))
 
 shared-slice-read-judge-variable : tie.Need-shared-slice-read-judge-variable Inv-loop μ-loop
 shared-slice-read-judge-variable c = search needs
@@ -40,13 +51,13 @@ judge-variable-requires c κs = let i = c .before .before .before .loop .inv in 
 enum-known-step : tie.Need-enum-known-step Inv-loop μ-loop
 enum-known-step c = search needs
 
-returns : tie.Need-returns Inv-loop μ-loop
-returns c =
-    let l = c .before .before .before .before .before .loop in
-    let here : l .i < length (now (c .before .before .before .before .before .before .before .args .variables)) = omega arith in (
+returns-2 : tie.Need-returns-2 Inv-loop μ-loop
+returns-2 c =
+    let t = c .before .before .before .before in
+    let l = t .before .loop in (
       stopped-keeps (c .match .keys2),
-      λ file marks rest h. stopped-leads (c .match .keys2)
-          (c .before .judge-variable .ensures .1 file marks _ (rw (variable-lent _ (l .i) rest here) at (l .inv .1 .1 file marks rest h))),
+      λ file rest behind h. stopped-leads (c .match .keys2)
+          (c .before .judge-variable .ensures .1 file _ (rw (variable-lent _ (l .i) rest (t .loop-test .taken)) at (l .inv .1 .1 file rest h))),
     )
 
 add-i : tie.Need-add-i Inv-loop μ-loop
@@ -57,22 +68,24 @@ loop-less c = search needs
 
 loop-again : tie.Need-loop-again Inv-loop μ-loop
 loop-again c =
-    let l = c .before .before .before .before .before .before .before .loop in
-    let here : l .i < length (now (c .before .before .before .before .before .before .before .before .before .args .variables)) = omega arith in
+    let t = c .before .before .before .before .before .before in
+    let l = t .before .loop in
     let e = c .before .before .before .judge-variable .ensures in
     let k = e .0 .on _ (c .before .step .given .1) in (
       k .0,
       (
-        (k .1, omega arith),
-        λ file marks rest h. e .1 file marks _ (rw (variable-lent _ (l .i) rest here) at (l .inv .1 .1 file marks rest h)) .on _ (c .before .step .given .1),
+        (next-variable (k .1 .0), λ h. (k .1 .0, k .1 .1), omega arith),
+        λ file rest h. e .1 file _ (rw (variable-lent _ (l .i) rest (t .loop-test .taken)) at (l .inv .1 .1 file rest h)) .on _ (c .before .step .given .1),
       ),
     )
 
-returns-2 : tie.Need-returns-2 Inv-loop μ-loop
-returns-2 c =
+returns-3 : tie.Need-returns-3 Inv-loop μ-loop
+returns-3 c =
     let l = c .before .loop in
-    let at : l .i ≡ length (now (c .before .before .before .args .variables)) = omega arith in
-    (on-keeps (l .inv .0) (l .inv .1 .0 .0), λ file marks rest h. on-leads (rw (at, drop-length) at (l .inv .1 .1 file marks rest h)))
+    let f = c .before .before in
+    let at : l .i ≡ length (now (f .before .before .args .variables)) = omega arith in
+    let some : 1 ≤ l .i = omega (arith, f .if1 .left) in
+    (on-keeps (l .inv .0) (l .inv .1 .0 .1 some), λ file rest behind h. on-leads (rw (at, drop-length) at (l .inv .1 .1 file rest h)))
 
 pub judge-variables-spec : {M : Type 1} → statement M
 judge-variables-spec =
@@ -80,12 +93,13 @@ judge-variables-spec =
     (tie.spec
     Inv-loop
     μ-loop
+    returns
     loop-holds
     shared-slice-read-judge-variable
     judge-variable-requires
     enum-known-step
-    returns
+    returns-2
     add-i
     loop-less
     loop-again
-    returns-2)
+    returns-3)

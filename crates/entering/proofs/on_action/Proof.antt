@@ -19,16 +19,16 @@ use Rattle.entering.proofs.on_action.Statement.{statement}
 use Rattle.entering.proofs.on_action.Tie as tie
 
 abbrev fault-of : tie.Start → ℕ
-fault-of s = actionFault (countColumn (now (s .args .rows))) (now (s .args .marks)) (s .args .p .vars) (s .args .p .actions) (s .args .v) (s .args .pre) (s .args .post)
+fault-of s = actionFault (countColumn (now (s .args .rows))) (s .args .p .vars) (s .args .p .actions) (s .args .v) (s .args .pre) (s .args .post)
 
 abbrev after : tie.Start → Progress
 after s = afterAction (s .args .p) (s .args .v) (s .args .next)
 
-faultless : (c : tie.After-enum-told) → eqb (fault-of (c .before .before .before .before)) 0 ≡ true
-faultless c = let s = c .before .before .before .before in goes-on (fault-of s) (s .args .p .at) (after s) (c .before .before .judge-action .ensures .0) (c .before .match .keys1)
+faultless : (c : tie.After-enum-told) → eqb (fault-of (c .before .before .before)) 0 ≡ true
+faultless c = let s = c .before .before .before in goes-on (fault-of s) (s .args .p .at) (after s) (c .before .before .judge-action .ensures) (c .before .match .keys1)
 
-faulty : (c : tie.At-match-keys2) → eqb (fault-of (c .before .before .before)) 0 ≡ false
-faulty c = let s = c .before .before .before in stops (fault-of s) (s .args .p .at) (after s) (c .before .judge-action .ensures .0) (c .match .keys2)
+faulty : (c : tie.At-match-keys2) → eqb (fault-of (c .before .before)) 0 ≡ false
+faulty c = let s = c .before .before in stops (fault-of s) (s .args .p .at) (after s) (c .before .judge-action .ensures) (c .match .keys2)
 
 judge-action-requires : tie.Need-judge-action-requires
 judge-action-requires c κs = search needs
@@ -37,39 +37,22 @@ enum-told : tie.Need-enum-told
 enum-told c = search needs
 
 returns : tie.Need-returns
-returns c = let e = c .before .judge-action .ensures in let s = faulty c in rw s (rw s at (e .0), (refl, rw s at (e .1)))
+returns c = let s = faulty c in rw s (rw s at (c .before .judge-action .ensures), λ setters. refl)
 
-cast-setters : tie.Need-cast-setters
-cast-setters c = record { fits = action-bounds _ _ (eqb-true _ 0 (faultless c)) .0 }
+cast-t11 : tie.Need-cast-t11
+cast-t11 c = search needs
 
-mul-setters : tie.Need-mul-setters
-mul-setters c = search needs
+cast-t14 : tie.Need-cast-t14
+cast-t14 c = search needs
 
-add-setters : tie.Need-add-setters
-add-setters c = search needs
-
-element-write-setters : tie.Need-element-write-setters
-element-write-setters c =
-    let b = action-bounds _ _ (eqb-true _ 0 (faultless c)) in
-    omega (arith, b .3, c .before .before .before .before .pre .1 _ (b .1))
-
-cast-t13 : tie.Need-cast-t13
-cast-t13 c = search needs
-
-cast-t20 : tie.Need-cast-t20
-cast-t20 c = search needs
-
-mul-t17 : tie.Need-mul-t17
-mul-t17 c = omega (arith, action-bounds _ _ (eqb-true _ 0 (faultless c)) .0)
+mul-t16 : tie.Need-mul-t16
+mul-t16 c = omega (arith, action-bounds _ (eqb-true _ 0 (faultless c)) .0)
 
 element-set-from-acts : tie.Need-element-set-from-acts
-element-set-from-acts c = action-bounds _ _ (eqb-true _ 0 (faultless c)) .0
+element-set-from-acts c = action-bounds _ (eqb-true _ 0 (faultless c)) .0
 
 returns-2 : tie.Need-returns-2
-returns-2 c =
-    let e = c .before .before .judge-action .ensures in
-    let s = faultless c in
-    rw s (rw s at (e .0), (action-stored _ _ _ _ _ _ (search needs) refl _, rw s at (e .1)))
+returns-2 c = let s = faultless c in rw s (rw s at (c .before .before .judge-action .ensures), action-stored _ _ _ _ _ _ (search needs) refl)
 
 pub on-action-spec : {M : Type 1} → statement M
 on-action-spec =
@@ -78,12 +61,8 @@ on-action-spec =
     judge-action-requires
     enum-told
     returns
-    cast-setters
-    mul-setters
-    add-setters
-    element-write-setters
-    cast-t13
-    cast-t20
-    mul-t17
+    cast-t11
+    cast-t14
+    mul-t16
     element-set-from-acts
     returns-2)

@@ -1,9 +1,8 @@
--- `loader::load` meets its contract: each turn takes one record, and after an action its conditions, further down the file, and what is still to be read goes on from there.
+-- `loader::load` meets its contract: each turn takes one record, and after an action what belongs to it and the actions that follow, further down the file, and what is still to be read goes on from there.
 -- Assumes nothing.
 use Prim.Native.Nat.{_-_}
 use native.Mathlib.Omega.{arith}
-use mathlib.Core.Path.{refl}
-use lib.ListN.{length, replicate}
+use lib.ListN.{length}
 use Rattle.tables.specs.Tables.{Sized}
 use Rattle.tables.specs.Rows.{countColumn, seenAll}
 use Rattle.pacing.specs.Reads.{Safe}
@@ -14,42 +13,42 @@ use Rattle.loader.proofs.load.Statement.{statement}
 use Rattle.loader.proofs.load.Tie as tie
 
 abbrev Inv-loop : tie.InvT-loop
-Inv-loop file acts₀ vars₀ setters₀ marks₀ p₀ acts vars setters marks p =
+Inv-loop file acts₀ vars₀ setters₀ p₀ acts vars setters p =
     Safe file p (countColumn vars)
-    × (Sized (seenAll acts₀ vars₀ setters₀) → Halfway file (seenAll acts vars setters) marks p)
+    × (Sized (seenAll acts₀ vars₀ setters₀) → Halfway file (seenAll acts vars setters) p)
 
 abbrev μ-loop : tie.MeasureT-loop
-μ-loop file acts₀ vars₀ setters₀ marks₀ p₀ acts vars setters marks p = length file - p .at
+μ-loop file acts₀ vars₀ setters₀ p₀ acts vars setters p = length file - p .at
 
 loop-holds : tie.Need-loop-holds Inv-loop μ-loop
 loop-holds c = (search needs, λ sized. begins _ sized)
 
 step-requires : tie.Need-step-requires Inv-loop μ-loop
-step-requires c κs = c .before .before .before .before .loop .inv .0
+step-requires c κs = c .before .before .before .loop .inv .0
 
 enum-known-taken : tie.Need-enum-known-taken Inv-loop μ-loop
 enum-known-taken c = search needs
 
-with-conditions-requires : tie.Need-with-conditions-requires Inv-loop μ-loop
-with-conditions-requires c κs = (rw (c .before .before .before .taken .given .1) at (c .before .before .before .before .before .step .ensures .0)) .1
+actions-requires : tie.Need-actions-requires Inv-loop μ-loop
+actions-requires c κs = (rw (c .before .before .before .taken .given .1) at (c .before .before .before .before .before .step .ensures .0)) .1
 
 loop-less : tie.Need-loop-less Inv-loop μ-loop
 loop-less c =
     let f = rw (c .before .before .before .before .taken .given .1) at (c .before .before .before .before .before .before .step .ensures .0) in
-    omega (arith, f .0, c .with-conditions .ensures .0 .1, c .with-conditions .ensures .0 .0 .inside)
+    omega (arith, f .0, c .actions .ensures .0 .1, c .actions .ensures .0 .0 .inside)
 
 loop-again : tie.Need-loop-again Inv-loop μ-loop
 loop-again c =
-    let i = c .before .before .before .before .before .before .before .before .before .before .before .loop .inv in
+    let i = c .before .before .before .before .before .before .before .before .before .before .loop .inv in
     let a = rw (c .before .before .before .before .taken .given .1) at (c .before .before .before .before .before .before .step .ensures) in
-    (c .with-conditions .ensures .0 .0, λ sized. c .with-conditions .ensures .1 _ _ (goes-on (i .0) (i .1 sized) a))
+    (c .actions .ensures .0 .0, λ sized. c .actions .ensures .1 _ (goes-on (i .0) (i .1 sized) a))
 
 enum-known-taken-2 : tie.Need-enum-known-taken-2 Inv-loop μ-loop
 enum-known-taken-2 c = search needs
 
 returns : tie.Need-returns Inv-loop μ-loop
 returns c =
-    let i = c .before .before .before .before .before .before .before .before .loop .inv in
+    let i = c .before .before .before .before .before .before .before .loop .inv in
     λ sized. refuses (i .0) (i .1 sized) (rw (c .before .taken2 .given .1) at (c .before .before .before .step .ensures))
 
 enum-known-taken-3 : tie.Need-enum-known-taken-3 Inv-loop μ-loop
@@ -57,7 +56,7 @@ enum-known-taken-3 c = search needs
 
 returns-2 : tie.Need-returns-2 Inv-loop μ-loop
 returns-2 c =
-    let i = c .before .before .before .before .before .before .before .before .loop .inv in
+    let i = c .before .before .before .before .before .before .before .loop .inv in
     λ sized. ends (i .0) (i .1 sized) _ (c .before .taken3 .given .0 .0) (rw (c .before .taken3 .given .1) at (c .before .before .before .step .ensures))
 
 pub load-spec : {M : Type 1} → statement M
@@ -69,7 +68,7 @@ load-spec =
     loop-holds
     step-requires
     enum-known-taken
-    with-conditions-requires
+    actions-requires
     loop-less
     loop-again
     enum-known-taken-2

@@ -1,8 +1,6 @@
 -- `pacing::step` meets its contract: a record that is there and may come is taken, any other is refused.
 -- Assumes nothing.
 use mathlib.Core.Path.{_≡_, sym, _∙_}
-use mathlib.Core.List.{List}
-use Prim.Native.Nat.{ℕ}
 use denote.Ref.{now}
 use Rattle.records.specs.Records.{recordAt}
 use Rattle.records.specs.declared.Found.the-variants.{There}
@@ -17,9 +15,6 @@ use Rattle.pacing.proofs.step.Tie as tie
 
 abbrev held : tie.Start → Tables
 held s = seenAll (now (s .args .acts)) (now (s .args .vars)) (now (s .args .setters))
-
-abbrev marked : tie.Start → List ℕ
-marked s = now (s .args .marks)
 
 is-there :
     (c : tie.After-found)
@@ -39,7 +34,7 @@ not-there-requires c κs = search needs
 returns : tie.Need-returns
 returns c =
     let s = c .before .before .before .before in
-    rw (c .not-there .ensures) (not-there-arm (now (s .args .file)) (s .args .p) (held s) (marked s) _ (sym (c .before .before .record-from .ensures)) (c .before .match .keys2))
+    rw (c .not-there .ensures) (not-there-arm (now (s .args .file)) (s .args .p) (held s) _ (sym (c .before .before .record-from .ensures)) (c .before .match .keys2))
 
 may-follow-requires : tie.Need-may-follow-requires
 may-follow-requires c κs = search needs
@@ -50,7 +45,10 @@ returns-2 c =
 
 take-requires : tie.Need-take-requires
 take-requires c κs =
-    (c .before .before .before .before .before .before .before .before .before .before .before .before .pre, (_, is-there (c .before .before .before .before .before .before .before .before), not-left (c .before .before .before .before .before .may-follow .ensures) (c .before .before .before .before .if1 .left)))
+    let e = c .before .before .before in
+    let m = e .before in
+    let f = m .before .before .before in
+    (f .before .before .before .before .pre, (_, is-there f, not-left (m .may-follow .ensures) (e .if1 .left)))
 
 returns-3 : tie.Need-returns-3
 returns-3 c = search needs

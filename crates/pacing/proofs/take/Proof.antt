@@ -2,28 +2,25 @@
 -- Assumes nothing.
 use mathlib.Core.Path.{_≡_, refl}
 use mathlib.Core.Bool.{true}
-use mathlib.Core.List.{List}
 use Prim.Native.Nat.{ℕ, _+_, _≤_}
 use native.Mathlib.Omega.{arith}
+use native.Mathlib.Decide.{ℕ-discrete}
 use lib.Dec.{ltb}
 use lib.ListN.{length}
 use denote.Ref.{now}
 use Rattle.records.specs.Records.{recordAt, bodyLength, bodyLengths}
 use Rattle.records.specs.declared.Found.the-variants.{There}
-use Rattle.records.proofs.Laws.{there-lies}
+use Rattle.records.proofs.Laws.{there-lies, beyond-the-kinds}
 use Rattle.study.specs.Reading.{mayFollow}
 use Rattle.tables.specs.Tables.{Tables}
 use Rattle.tables.specs.Rows.{seenAll}
-use Rattle.pacing.proofs.Arms.{body-inside, where-it-ends, action-place, condition-action, variable-arm, action-arm, condition-arm, task-arm, seed-arm, end-arm}
+use Rattle.pacing.proofs.Arms.{body-inside, where-it-ends, action-place, condition-action, times-action, variable-arm, action-arm, condition-arm, task-arm, seed-arm, times-arm, present-arm, end-last, end-verdict}
 use borrow.Author.Needs.{needs}
 use Rattle.pacing.proofs.take.Statement.{statement}
 use Rattle.pacing.proofs.take.Tie as tie
 
 abbrev held : tie.Start → Tables
 held s = seenAll (now (s .args .acts)) (now (s .args .vars)) (now (s .args .setters))
-
-abbrev marked : tie.Start → List ℕ
-marked s = now (s .args .marks)
 
 is-there : (s : tie.Start) (k : ℕ) → s .args .kind ≡ k → recordAt (now (s .args .file)) (s .args .p .at) ≡ There k (s .args .start) (s .args .start + bodyLength k)
 is-there s k e = where-it-ends _ _ (rw e at (s .pre .1 .1))
@@ -50,6 +47,14 @@ inside-4 c = body-inside _ _ (c .before .before .pre .1 .1) 4 (c .match .keys4)
 inside-5 : (c : tie.At-match-keys5) → c .before .before .args .start + 4 ≤ length (now (c .before .before .args .file))
 unfolding bodyLength bodyLengths
 inside-5 c = body-inside _ _ (c .before .before .pre .1 .1) 5 (c .match .keys5)
+
+inside-7 : (c : tie.At-match-keys6) → c .before .before .args .start + 1 ≤ length (now (c .before .before .args .file))
+unfolding bodyLength bodyLengths
+inside-7 c = body-inside _ _ (c .before .before .pre .1 .1) 7 (c .match .keys6)
+
+inside-8 : (c : tie.At-match-keys7) → c .before .before .args .start + 1 ≤ length (now (c .before .before .args .file))
+unfolding bodyLength bodyLengths
+inside-8 c = body-inside _ _ (c .before .before .pre .1 .1) 8 (c .match .keys7)
 
 shared-slice-read-on-variable : tie.Need-shared-slice-read-on-variable
 shared-slice-read-on-variable c = omega (arith, inside-1 (c .before))
@@ -81,10 +86,10 @@ add-on-action-3 c = omega (arith, inside-2 (c .before .before .before))
 on-action-requires : tie.Need-on-action-requires
 unfolding bodyLength bodyLengths
 on-action-requires c κs =
-    let m = c .before .before .before .before .before .before .before in
+    let m = c .before .before .before .before .before in
     let s = m .before .before in
     let safe = s .pre .0 in
-    (safe .bounds .few-vars, safe .bounds .small, action-place _ _ _ _ (held s) (marked s) safe (is-there s 2 (m .match .keys2)) (may-come s 2 (m .match .keys2)))
+    (safe .bounds .few-vars, action-place _ _ _ _ (held s) safe (is-there s 2 (m .match .keys2)) (may-come s 2 (m .match .keys2)))
 
 shared-slice-read-on-condition : tie.Need-shared-slice-read-on-condition
 shared-slice-read-on-condition c = omega (arith, inside-3 (c .before))
@@ -103,7 +108,7 @@ on-condition-requires c κs =
     let m = c .before .before .before .before in
     let s = m .before .before in
     let safe = s .pre .0 in
-    (safe .bounds .few-vars, omega (arith, safe .bounds .fewer, safe .bounds .low), condition-action _ _ (s .args .start) 0 (held s) (marked s) safe (may-come s 3 (m .match .keys3)), safe .bounds .few-actions)
+    (safe .bounds .few-vars, omega (arith, safe .bounds .fewer, safe .bounds .low), condition-action _ _ (s .args .start) 0 (held s) safe (may-come s 3 (m .match .keys3)), safe .bounds .few-actions)
 
 shared-slice-read-on-task : tie.Need-shared-slice-read-on-task
 shared-slice-read-on-task c = omega (arith, inside-4 (c .before))
@@ -156,6 +161,28 @@ add-on-seed c = omega (arith, inside-5 (c .before .before .before .before .befor
 on-seed-requires : tie.Need-on-seed-requires
 on-seed-requires c κs = search needs
 
+shared-slice-read-on-times : tie.Need-shared-slice-read-on-times
+shared-slice-read-on-times c = omega (arith, inside-7 (c .before))
+
+add-on-times : tie.Need-add-on-times
+add-on-times c = omega (arith, inside-7 (c .before))
+
+on-times-requires : tie.Need-on-times-requires
+on-times-requires c κs =
+    let m = c .before .before in
+    let s = m .before .before in
+    let safe = s .pre .0 in
+    (safe .bounds .known-situation, omega (arith, safe .bounds .fewer, safe .bounds .low), times-action _ _ (s .args .start) 0 (held s) safe (may-come s 7 (m .match .keys6)), safe .bounds .few-actions)
+
+shared-slice-read-on-present : tie.Need-shared-slice-read-on-present
+shared-slice-read-on-present c = omega (arith, inside-8 (c .before))
+
+add-on-present : tie.Need-add-on-present
+add-on-present c = omega (arith, inside-8 (c .before))
+
+on-present-requires : tie.Need-on-present-requires
+on-present-requires c κs = search needs
+
 on-end-requires : tie.Need-on-end-requires
 on-end-requires c κs = search needs
 
@@ -165,15 +192,15 @@ returns c =
     let m = c .before .before .before in
     let s = m .before .before in
     rw (c .on-variable .ensures .0, c .on-variable .ensures .1 .0, c .on-variable .ensures .1 .1, c .on-variable .ensures .1 .2)
-    (variable-arm _ _ _ _ (held s) (marked s) (s .pre .0) (is-there s 1 (m .match .keys1)) (may-come s 1 (m .match .keys1)) _ refl)
+    (variable-arm _ _ _ _ (held s) (s .pre .0) (is-there s 1 (m .match .keys1)) (may-come s 1 (m .match .keys1)) _ refl)
 
 returns-2 : tie.Need-returns-2
 unfolding bodyLength bodyLengths
 returns-2 c =
-    let m = c .before .before .before .before .before .before .before .before in
+    let m = c .before .before .before .before .before .before in
     let s = m .before .before in
-    rw (c .on-action .ensures .0, c .on-action .ensures .1 .0, c .on-action .ensures .1 .1)
-    (action-arm _ _ _ _ (held s) (marked s) (s .pre .0) (is-there s 2 (m .match .keys2)) (may-come s 2 (m .match .keys2)) _ _ _ refl refl refl _ refl)
+    rw (c .on-action .ensures .0, c .on-action .ensures .1 (now (s .args .setters)))
+    (action-arm _ _ _ _ (held s) (s .pre .0) (is-there s 2 (m .match .keys2)) (may-come s 2 (m .match .keys2)) _ _ _ refl refl refl _ refl)
 
 returns-3 : tie.Need-returns-3
 unfolding bodyLength bodyLengths
@@ -181,7 +208,7 @@ returns-3 c =
     let m = c .before .before .before .before .before in
     let s = m .before .before in
     rw (c .on-condition .ensures .0, c .on-condition .ensures .1 (now (s .args .setters)))
-    (condition-arm _ _ _ _ (held s) (marked s) (s .pre .0) (is-there s 3 (m .match .keys3)) (may-come s 3 (m .match .keys3)) _ _ refl refl _ refl)
+    (condition-arm _ _ _ _ (held s) (s .pre .0) (is-there s 3 (m .match .keys3)) (may-come s 3 (m .match .keys3)) _ _ refl refl _ refl)
 
 returns-4 : tie.Need-returns-4
 unfolding bodyLength bodyLengths
@@ -189,7 +216,7 @@ returns-4 c =
     let m = c .before .before .before .before .before in
     let s = m .before .before in
     rw (c .on-task .ensures .0, c .on-task .ensures .1 .0, c .on-task .ensures .1 .1, c .on-task .ensures .1 .2)
-    (task-arm _ _ _ _ (held s) (marked s) (s .pre .0) (is-there s 4 (m .match .keys4)) (may-come s 4 (m .match .keys4)) _ _ _ refl refl refl _ refl)
+    (task-arm _ _ _ _ (held s) (s .pre .0) (is-there s 4 (m .match .keys4)) (may-come s 4 (m .match .keys4)) _ _ _ refl refl refl _ refl)
 
 returns-5 : tie.Need-returns-5
 unfolding bodyLength bodyLengths
@@ -197,19 +224,48 @@ returns-5 c =
     let m = c .before .before .before .before .before .before in
     let s = m .before .before in
     rw (c .on-seed .ensures)
-    (seed-arm _ _ _ _ (held s) (marked s) (s .pre .0) (is-there s 5 (m .match .keys5)) (may-come s 5 (m .match .keys5)) _ (c .before .seed-of .ensures))
+    (seed-arm _ _ _ _ (held s) (s .pre .0) (is-there s 5 (m .match .keys5)) (may-come s 5 (m .match .keys5)) _ (c .before .seed-of .ensures))
 
 returns-6 : tie.Need-returns-6
 unfolding bodyLength bodyLengths
 returns-6 c =
-    let m = c .before in
+    let m = c .before .before .before in
     let s = m .before .before in
-    let r = m .match .rest in
-    let e : s .args .kind ≡ 6 =
-    let l = there-lies _ _ (s .pre .1 .1) in
-    omega (arith, l .low, l .high, r .1, r .0 .1, r .0 .0 .1, r .0 .0 .0 .1, r .0 .0 .0 .0 .1) in
+    rw (c .on-times .ensures .0, c .on-times .ensures .1 (now (s .args .setters)))
+    (times-arm _ _ _ _ (held s) (s .pre .0) (is-there s 7 (m .match .keys6)) (may-come s 7 (m .match .keys6)) _ refl)
+
+returns-7 : tie.Need-returns-7
+unfolding bodyLength bodyLengths
+returns-7 c =
+    let m = c .before .before in
+    let s = m .before .before in
+    rw (c .on-present .ensures)
+    (present-arm _ _ _ _ (held s) (s .pre .0) (is-there s 8 (m .match .keys7)) (may-come s 8 (m .match .keys7)) _ refl)
+
+-- the kind is one of eight, and none of the seven others
+is-end : (c : tie.At-match-rest) → c .before .before .args .kind ≡ 6
+is-end c = from (ℕ-discrete (c .before .before .args .kind) 6)
+  where
+    from : Dec (c .before .before .args .kind ≡ 6) → c .before .before .args .kind ≡ 6
+    from (yes e) = e
+    from (no ne) =
+        let l = there-lies _ _ (c .before .before .pre .1 .1) in
+        let r = c .match .rest in
+        absurd (omega (arith, l .high, beyond-the-kinds (l .low) (r .0 .0 .0 .0 .0 .0 .1) (r .0 .0 .0 .0 .0 .1) (r .0 .0 .0 .0 .1) (r .0 .0 .0 .1) (r .0 .0 .1) ne (r .0 .1) (r .1)))
+
+returns-8 : tie.Need-returns-8
+unfolding bodyLength bodyLengths
+returns-8 c =
+    let m = c .before .before .before in
+    let s = m .before .before in
     let n : s .args .start + 0 ≡ s .args .start = omega arith in
-    rw (c .on-end .ensures) (end-arm _ _ _ _ (held s) (marked s) (s .pre .0) (rw n at (is-there s 6 e)) (may-come s 6 e))
+    let may = may-come s 6 (is-end m) in
+    let safe = s .pre .0 in (
+      c .on-end .ensures .0 _ _ _,
+      λ d stands.
+          rw (end-verdict _ _ _ _ (held s) safe (rw n at (is-there s 6 (is-end m))) may d stands)
+          (c .on-end .ensures .1 _ _ _ _ d refl (end-last _ _ may) (safe .bounds .few-tasks) stands),
+    )
 
 pub take-spec : {M : Type 1} → statement M
 take-spec =
@@ -247,10 +303,18 @@ take-spec =
     seed-of-requires
     add-on-seed
     on-seed-requires
+    shared-slice-read-on-times
+    add-on-times
+    on-times-requires
+    shared-slice-read-on-present
+    add-on-present
+    on-present-requires
     on-end-requires
     returns
     returns-2
     returns-3
     returns-4
     returns-5
-    returns-6)
+    returns-6
+    returns-7
+    returns-8)

@@ -5,7 +5,6 @@ use Prim.Native.Nat.{_-_, _≤_}
 use native.Mathlib.Omega.{arith}
 use Rattle.tables.specs.Rows.{startColumn, Begins}
 use Rattle.tables.proofs.Starts.{begins-more}
-use borrow.Author.Needs.{needs}
 use Rattle.tables.proofs.set_out.Statement.{statement}
 use Rattle.tables.proofs.set_out.Tie as tie
 

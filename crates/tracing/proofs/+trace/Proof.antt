@@ -68,10 +68,10 @@ module _ (t : ℕ) where
   setter-is f study moves = rw (f .found .given .1) at (f .before .before .setter .ensures study moves)
 
   named-low : (f : Found) → named f < 256
-  named-low f = let m = entry-of f .pre .1 .4 .1 in omega (arith, few-actions m, m .actions, setter-is f _ m .0)
+  named-low f = let m = entry-of f .pre .1 .4 .1 in omega (arith, few-actions m, m .actions, setter-is f _ m .0 .there)
 
   pre-low : (f : Found) → getD (preColumn (now (entry-of f .args .acts))) (named f) 0 < 16
-  pre-low f = let m = entry-of f .pre .1 .4 .1 in told-pre-small m _ (setter-is f _ m .0)
+  pre-low f = let m = entry-of f .pre .1 .4 .1 in told-pre-small m _ (setter-is f _ m .0 .there)
 
   -- the start is not reached yet, and one more value may be passed
   not-start : (f : Found) {x : ℕ} → x ≡ entry-of f .args .start → entry-of f .args .q ≢ x
@@ -169,7 +169,7 @@ module _ (t : ℕ) where
         (c .trace .ensures .0 .0, λ d. omega (arith, c .trace .ensures .0 .1 d, some-left f)),
         λ study moves e.
             let is = setter-is f study moves in
-            let told = told-pre moves _ (is .0) in
+            let told = told-pre moves _ (is .0 .there) in
             goes-back study _ _ _ _ _ (not-start f e) (moves .lawful) (some-left f) is
             (omega (arith, inside w, w .wide .ensures .0, pre-read w, told, p .3)) _
             (rw (w .wide .ensures .0, pre-read w, told) at (c .trace .ensures .1 study moves e)),

@@ -1,11 +1,11 @@
--- `tracing::setter` meets its contract: the action that the table names sets the value, or none does.
+-- `tracing::setter` meets its contract: the action that the table names is in force and sets the value, or none does.
 -- Assumes nothing.
 use mathlib.Core.Path.{_≡_, sym, _∙_}
 use Prim.Native.Nat.{_+_, _*_}
 use lib.ListN.{getD}
 use denote.Ref.{now}
 use borrow.Author.Needs.{needs}
-use Rattle.tracing.proofs.Setters.{is-setter, none-named, other-variable, other-value}
+use Rattle.tracing.proofs.Setters.{none-named, is-setter, other-set}
 use Rattle.tracing.proofs.setter.Statement.{statement}
 use Rattle.tracing.proofs.setter.Tie as tie
 
@@ -33,31 +33,21 @@ wide-requires-2 c κs = search needs
 returns : tie.Need-returns
 returns c t moves = none-named moves (named (c .before)) (c .if1 .taken)
 
-action-at-requires : tie.Need-action-at-requires
-action-at-requires c κs = search needs
+cast-sets-to : tie.Need-cast-sets-to
+cast-sets-to c = search needs
 
-wide-requires-3 : tie.Need-wide-requires-3
-wide-requires-3 c κs = search needs
+sets-to-requires : tie.Need-sets-to-requires
+sets-to-requires c κs = search needs
 
 returns-2 : tie.Need-returns-2
 returns-2 c t moves =
-    let w = c .before .before .before in
-    let opens = w .before .action-at .ensures in
-    let e = w .before .before in
-    is-setter moves (named (e .before)) (e .if1 .left)
-    (sym (w .wide3 .ensures .0 ∙ opens .var) ∙ c .before .before .if2 .taken) (sym (opens .post) ∙ c .if3 .taken)
+    let e = c .before .before in
+    is-setter moves (named (e .before)) (e .if1 .left) (sym (c .before .sets-to .ensures) ∙ c .if2 .taken)
 
 returns-3 : tie.Need-returns-3
 returns-3 c t moves =
-    let a = c .before .before .before .before in
-    let e = a .before in
-    other-value moves (named (e .before)) (e .if1 .left) (λ z. c .if3 .left (a .action-at .ensures .post ∙ z))
-
-returns-4 : tie.Need-returns-4
-returns-4 c t moves =
-    let w = c .before in
-    let e = w .before .before in
-    other-variable moves (named (e .before)) (e .if1 .left) (λ z. c .if2 .left (w .wide3 .ensures .0 ∙ w .before .action-at .ensures .var ∙ z))
+    let e = c .before .before in
+    other-set moves (named (e .before)) (e .if1 .left) (sym (c .before .sets-to .ensures) ∙ c .if2 .left)
 
 pub setter-spec : {M : Type 1} → statement M
 setter-spec =
@@ -69,8 +59,7 @@ setter-spec =
     element-copy-out-wide
     wide-requires-2
     returns
-    action-at-requires
-    wide-requires-3
+    cast-sets-to
+    sets-to-requires
     returns-2
-    returns-3
-    returns-4)
+    returns-3)

@@ -6,7 +6,7 @@ use native.Mathlib.Omega.{arith}
 use lib.ListN.{getD, length-set}
 use denote.Ref.{now}
 use borrow.Author.Needs.{needs}
-use Rattle.tables.specs.Rows.{varColumn, preColumn, postColumn, startColumn, goalColumn}
+use Rattle.tables.specs.Rows.{varColumn, preColumn, postColumn, outColumn, startColumn, goalColumn}
 use Rattle.tracing.proofs.Ranges.{few-tasks, told-goal-small}
 use Rattle.tracing.proofs.WalksEntered.{none-entered, all-entered}
 use Rattle.tracing.proofs.Rounds.{Underway, goes-on, stops}
@@ -15,7 +15,7 @@ use Rattle.tracing.proofs.walk_all.Tie as tie
 
 abbrev Inv-loop : tie.InvT-loop
 Inv-loop n actions acts vars setters steps₀ total₀ v₀ steps total v =
-    Underway n actions setters (varColumn acts) (preColumn acts) (postColumn acts) (startColumn vars) (goalColumn vars) steps₀ steps total v
+    Underway n actions setters (varColumn acts) (preColumn acts) (postColumn acts) (outColumn acts) (startColumn vars) (goalColumn vars) steps₀ steps total v
 
 abbrev μ-loop : tie.MeasureT-loop
 μ-loop n actions acts vars setters steps₀ total₀ v₀ steps total v = n - v

@@ -1,20 +1,47 @@
 -- `writing::put_actions` meets its contract: at each turn the bytes from the next action on are left to put, with the conditions that no action has taken yet.
 -- Assumes nothing.
 use mathlib.Core.Path.{_≡_, refl}
-use Prim.Native.Nat.{_+_, _*_, _-_, _%_, _≤_}
+use mathlib.Core.List.{List, [], _∷_, _++_}
+use Prim.Native.Nat.{ℕ, _+_, _*_, _-_, _%_, _≤_}
 use native.Mathlib.Omega.{arith}
-use lib.ListN.{length, take, drop, length-drop}
+use lib.ListN.{length, getD, take, drop, length-drop}
 use lib.Seq.{length-take-le}
+use Rattle.study.specs.Study.{always}
 use Rattle.spelling.specs.Lent.{announced}
+use Rattle.writing.specs.Put.{Put}
 use borrow.Author.Needs.{needs}
 use Rattle.writing.proofs.Putting.{Left, in-front, all-left, first-fits, first-put, none-left}
-use Rattle.writing.proofs.Entries.{conditionsFrom, actionsFrom, no-action-left, announced-first, action-first}
+use Rattle.writing.proofs.Entries.{conditionsFrom, actionsFrom, unlessBytes, no-action-left, announced-first, action-first}
 use Rattle.writing.proofs.put_actions.Statement.{statement}
 use Rattle.writing.proofs.put_actions.Tie as tie
 
+-- an action's own bytes, then its conditions, which end at a place, then its situations
+module _ (actions conditions : List ℕ) (i used next : ℕ) where
+  abbrev own : List ℕ
+  own = 2 ∷ getD actions i 0 ∷ getD actions (i + 1) 0 ∷ getD actions (i + 2) 0 ∷ []
+
+  abbrev its-conditions : List ℕ
+  its-conditions = conditionsFrom (take (next - used) (drop used conditions)) 0
+
+  abbrev its-situations : List ℕ
+  its-situations = unlessBytes always 7 (getD actions (i + 3) 0)
+
+  module _
+      {whole before now : List ℕ} {begin at : ℕ} (left : Left whole begin before (actionsFrom actions conditions i used) at now)
+      (h : i + 5 ≤ length actions) (e : next ≡ used + 2 * getD actions (i + 4) 0) (few : next ≤ length conditions) where
+    own-put :
+        {after : List ℕ} {on : ℕ} → Put own at now after on
+        → Left whole begin before (its-conditions ++ (its-situations ++ actionsFrom actions conditions (i + 5) next)) on after
+    own-put = first-put left (action-first actions i h conditions used next e few)
+
+    conditions-put :
+        {after later : List ℕ} {on further : ℕ} → Put own at now after on → Put its-conditions on after later further
+        → Left whole begin before (its-situations ++ actionsFrom actions conditions (i + 5) next) further later
+    conditions-put put = first-put (own-put put) (in-front its-conditions _)
+
 abbrev Inv-loop : tie.InvT-loop
 Inv-loop actions conditions begin file₀ at₀ i₀ used₀ file at i used =
-    (i ≤ length actions) × ((i % 4 ≡ 0) × ((used + 2 * announced (drop i actions) ≡ length conditions)
+    (i ≤ length actions) × ((i % 5 ≡ 0) × ((used + 2 * announced (drop i actions) ≡ length conditions)
     × Left (actionsFrom actions conditions 0 0) begin file₀ (actionsFrom actions conditions i used) at file))
 
 abbrev μ-loop : tie.MeasureT-loop
@@ -80,12 +107,30 @@ put-conditions-requires c κs =
     let s = l .before .before .before .before in
     let many = announced-first (s .args .actions .now) (l .loop .i) (omega arith) in
     let next = l .loop .used + 2 * w .wide .result in
-    let first = action-first (s .args .actions .now) (l .loop .i) (omega arith) (s .args .conditions .now) (l .loop .used) next (omega arith) (omega arith) in
-    let own = conditionsFrom (take (next - l .loop .used) (drop (l .loop .used) (s .args .conditions .now))) 0 in
-    let put = first-put (l .loop .inv .1 .1 .1) first (p .put-four .ensures) in (
+    let put = own-put (s .args .actions .now) (s .args .conditions .now) (l .loop .i) (l .loop .used) next (l .loop .inv .1 .1 .1) (omega arith) (omega arith) (omega arith) (p .put-four .ensures) in (
       omega (arith, length-take-le (next - l .loop .used) (drop (l .loop .used) (s .args .conditions .now)) (omega (arith, length-drop (l .loop .used) (s .args .conditions .now)))),
-      first-fits put (in-front own _) (s .pre .2),
+      first-fits put (in-front (its-conditions (s .args .actions .now) (s .args .conditions .now) (l .loop .i) (l .loop .used) next) _) (s .pre .2),
     )
+
+add-put-unless : tie.Need-add-put-unless Inv-loop μ-loop
+add-put-unless c = omega arith
+
+shared-slice-read-put-unless : tie.Need-shared-slice-read-put-unless Inv-loop μ-loop
+shared-slice-read-put-unless c = omega arith
+
+put-unless-requires : tie.Need-put-unless-requires Inv-loop μ-loop
+put-unless-requires c κs =
+    let o = c .before .before .before .before in
+    let w = o .before .before .before in
+    let p = w .before .before .before .before in
+    let l = p .before .before .before .before .before .before in
+    let s = l .before .before .before .before in
+    let many = announced-first (s .args .actions .now) (l .loop .i) (omega arith) in
+    let put =
+    conditions-put (s .args .actions .now) (s .args .conditions .now) (l .loop .i) (l .loop .used) (l .loop .used + 2 * w .wide .result) (l .loop .inv .1 .1 .1)
+    (omega arith) (omega arith) (omega arith) (p .put-four .ensures) (o .put-conditions .ensures) in
+    let set = unlessBytes always 7 (getD (s .args .actions .now) (l .loop .i + 3) 0) in
+    first-fits put (in-front set _) (s .pre .2)
 
 add-i : tie.Need-add-i Inv-loop μ-loop
 add-i c = omega arith
@@ -95,17 +140,20 @@ loop-less c = omega arith
 
 loop-again : tie.Need-loop-again Inv-loop μ-loop
 loop-again c =
-    let o = c .before .before in
+    let u = c .before .before in
+    let o = u .before .before .before .before .before in
     let w = o .before .before .before in
     let p = w .before .before .before .before in
-    let l = p .before .before .before .before .before .before in
+    let t = p .before .before .before .before .before in
+    let l = t .before in
     let s = l .before .before .before .before in
-    let many = announced-first (s .args .actions .now) (l .loop .i) (omega arith) in
-    let next = l .loop .used + 2 * w .wide .result in
-    let first = action-first (s .args .actions .now) (l .loop .i) (omega arith) (s .args .conditions .now) (l .loop .used) next (omega arith) (omega arith) in
-    let own = conditionsFrom (take (next - l .loop .used) (drop (l .loop .used) (s .args .conditions .now))) 0 in
-    let put = first-put (l .loop .inv .1 .1 .1) first (p .put-four .ensures) in
-    (omega arith, (omega arith, (omega arith, first-put put (in-front own _) (o .put-conditions .ensures))))
+    let there : l .loop .i + 5 ≤ length (s .args .actions .now) = omega (arith, t .loop-test .taken, l .loop .inv .1 .0) in
+    let many = announced-first (s .args .actions .now) (l .loop .i) there in
+    let put =
+    conditions-put (s .args .actions .now) (s .args .conditions .now) (l .loop .i) (l .loop .used) (l .loop .used + 2 * w .wide .result) (l .loop .inv .1 .1 .1)
+    there (omega arith) (omega arith) (p .put-four .ensures) (o .put-conditions .ensures) in
+    let set = unlessBytes always 7 (getD (s .args .actions .now) (l .loop .i + 3) 0) in
+    (omega arith, (omega arith, (omega arith, first-put put (in-front set _) (u .put-unless .ensures))))
 
 same-length : tie.Need-same-length Inv-loop μ-loop
 same-length c = search needs
@@ -138,6 +186,9 @@ put-actions-spec =
     part-put-conditions-start
     part-put-conditions-end
     put-conditions-requires
+    add-put-unless
+    shared-slice-read-put-unless
+    put-unless-requires
     add-i
     loop-less
     loop-again

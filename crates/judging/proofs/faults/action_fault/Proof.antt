@@ -1,10 +1,9 @@
--- `judging::faults::action_fault` meets its contract: each return's tests are those of `actionFault`, and `is_set` is asked of a variable and a value that are in the table.
+-- `judging::faults::action_fault` meets its contract: each return's tests are those of `actionFault`.
 -- Assumes nothing.
-use native.Mathlib.Omega.{arith}
 use borrow.Author.Needs.{needs}
 use borrow.Author.Tests.{le-leb, lt-leb, eq-eqb, ne-eqb}
 use Rattle.judging.specs.Faults.{actionFault}
-use Rattle.judging.proofs.Tests.{not-taken, not-left, in-table}
+use Rattle.judging.proofs.Tests.{not-taken, not-left}
 use Rattle.judging.proofs.faults.action_fault.Statement.{statement}
 use Rattle.judging.proofs.faults.action_fault.Tie as tie
 
@@ -40,51 +39,19 @@ returns-4 c =
       eq-eqb _ _ (c .if4 .taken),
     )
 
-is-set-requires : tie.Need-is-set-requires
-is-set-requires c κs =
-    let d = c .before in
-    let s = d .before .before .before .before .before in
-    let h = in-table _ _ _ _ (not-left (d .before .in-range2 .ensures) (d .if3 .left)) in
-    omega (arith, s .pre .1 (s .args .v) (h .0))
-
 returns-5 : tie.Need-returns-5
 unfolding actionFault
 returns-5 c =
-    let d = c .before .before .before in
+    let d = c .before in
     let e = d .before .before in
     simp (
       lt-leb _ _ (e .before .before .if1 .left),
       not-left (e .before .in-range .ensures) (e .if2 .left),
       not-left (d .before .in-range2 .ensures) (d .if3 .left),
-      ne-eqb _ _ (c .before .before .if4 .left),
-      ← c .before .is-set .ensures,
-      c .if5 .taken,
-    )
-
-returns-6 : tie.Need-returns-6
-unfolding actionFault
-returns-6 c =
-    let d = c .before .before .before in
-    let e = d .before .before in
-    simp (
-      lt-leb _ _ (e .before .before .if1 .left),
-      not-left (e .before .in-range .ensures) (e .if2 .left),
-      not-left (d .before .in-range2 .ensures) (d .if3 .left),
-      ne-eqb _ _ (c .before .before .if4 .left),
-      ← c .before .is-set .ensures,
-      c .if5 .left,
+      ne-eqb _ _ (c .if4 .left),
     )
 
 pub action-fault-spec : {M : Type 1} → statement M
 action-fault-spec =
     tie.close
-    (tie.spec
-    returns
-    in-range-requires
-    returns-2
-    in-range-requires-2
-    returns-3
-    returns-4
-    is-set-requires
-    returns-5
-    returns-6)
+    (tie.spec returns in-range-requires returns-2 in-range-requires-2 returns-3 returns-4 returns-5)

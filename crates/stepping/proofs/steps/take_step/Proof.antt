@@ -1,24 +1,35 @@
 -- `stepping::steps::take_step` meets its contract: each return's tests are those of one step of the definition.
 -- Assumes nothing.
 use mathlib.Core.Path.{_≡_, sym, _∙_}
+use mathlib.Core.Bool.{true}
 use Prim.Native.Nat.{_+_, _*_, _<_}
+use lib.Dec.{eqb}
+use lib.ListN.{getD}
 use denote.Ref.{now}
 use borrow.Author.Needs.{needs}
+use borrow.Author.Tests.{not-true, not-false}
 use Rattle.study.specs.Study.{Study, actionAt}
 use Rattle.runs.specs.Run.{barred}
+use Rattle.tables.specs.Rows.{outColumn}
 use Rattle.stepping.specs.declared.Fails.the-variants.{Nowhere}
 use Rattle.stepping.specs.Stepping.{Ready, Tells, failsOf}
-use Rattle.stepping.proofs.Turns.{mark-in-range, takes-14, takes-15, takes-16, takes-on}
+use Rattle.stepping.proofs.Turns.{mark-in-range, takes-14, takes-20, takes-15, takes-16, takes-on}
 use Rattle.stepping.proofs.steps.take_step.Statement.{statement}
 use Rattle.stepping.proofs.steps.take_step.Tie as tie
 
--- the action is there, and its row was opened
+-- the action is there and in force, and its row was opened
 module _ (c : tie.After-action-at) where
+  abbrev asked : tie.After-in-force
+  asked = c .before .before
+
   abbrev start : tie.Start
-  start = c .before .before .before
+  start = asked .before .before .before
 
   there : start .args .entry < start .args .actions
-  there = c .before .if1 .left
+  there = asked .before .if1 .left
+
+  force : eqb (getD (outColumn (now (start .args .acts))) (start .args .entry) 0) 0 ≡ true
+  force = sym (asked .in-force .ensures) ∙ not-false _ (c .before .if2 .left)
 
   told :
       {t : Study} → Ready (now (start .args .file)) (start .args .actions) (now (start .args .acts)) t
@@ -48,6 +59,19 @@ returns c =
     let a = c .before .before .before .args in
     λ t past r s. rw (c .stops .ensures) (takes-14 r s (a .k) (a .entry) (c .before .if1 .taken))
 
+in-force-requires : tie.Need-in-force-requires
+in-force-requires c κs = search needs
+
+stops-requires-2 : tie.Need-stops-requires-2
+stops-requires-2 c κs = search needs
+
+returns-2 : tie.Need-returns-2
+returns-2 c =
+    let f = c .before .before in
+    let e = f .before in
+    let a = e .before .before .args in
+    λ t past r s. rw (c .stops2 .ensures) (takes-20 r s (a .k) (a .entry) (e .if1 .left) (sym (f .in-force .ensures) ∙ not-true _ (c .before .if2 .taken)))
+
 action-at-requires : tie.Need-action-at-requires
 action-at-requires c κs = search needs
 
@@ -57,17 +81,17 @@ barred-requires c κs = (_, told (c .before) (start (c .before) .pre .1))
 enum-known-v : tie.Need-enum-known-v
 enum-known-v c = search needs
 
-stops-requires-2 : tie.Need-stops-requires-2
-stops-requires-2 c κs = search needs
+stops-requires-3 : tie.Need-stops-requires-3
+stops-requires-3 c κs = search needs
 
-returns-2 : tie.Need-returns-2
-returns-2 c =
+returns-3 : tie.Need-returns-3
+returns-3 c =
     let v = c .before .before in
     let b = v .before .before in
     let o = b .before .before in
     let a = start o .args in
     λ t past r s.
-    rw (c .stops2 .ensures) (takes-15 r s (a .k) (a .entry) (there o) (sym (v .v .given .1) ∙ b .barred .ensures _ (told o r)))
+    rw (c .stops3 .ensures) (takes-15 r s (a .k) (a .entry) (there o) (force o) (sym (v .v .given .1) ∙ b .barred .ensures _ (told o r)))
 
 enum-told : tie.Need-enum-told
 enum-told c = search needs
@@ -84,20 +108,20 @@ wide-requires-2 c κs = search needs
 add-mark : tie.Need-add-mark
 add-mark c = search needs
 
-element-copy-out-if2 : tie.Need-element-copy-out-if2
-element-copy-out-if2 c = in-range c .1
+element-copy-out-if3 : tie.Need-element-copy-out-if3
+element-copy-out-if3 c = in-range c .1
 
-stops-requires-3 : tie.Need-stops-requires-3
-stops-requires-3 c κs = search needs
+stops-requires-4 : tie.Need-stops-requires-4
+stops-requires-4 c κs = search needs
 
-returns-3 : tie.Need-returns-3
-returns-3 c =
+returns-4 : tie.Need-returns-4
+returns-4 c =
     let w = c .before .before .before in
     let o = opened w in
     let a = start o .args in
     λ t past r s.
-    rw (c .stops3 .ensures)
-    (takes-16 r s (a .k) (a .entry) (there o) (free w r) (told o r) (w .before .wide .ensures .0) (w .wide2 .ensures .0) (c .before .if2 .taken))
+    rw (c .stops4 .ensures)
+    (takes-16 r s (a .k) (a .entry) (there o) (force o) (free w r) (told o r) (w .before .wide .ensures .0) (w .wide2 .ensures .0) (c .before .if3 .taken))
 
 element-write-held : tie.Need-element-write-held
 element-write-held c = in-range (c .before .before) .1
@@ -105,12 +129,13 @@ element-write-held c = in-range (c .before .before) .1
 element-write-state : tie.Need-element-write-state
 element-write-state c = in-range (c .before .before) .0
 
-returns-4 : tie.Need-returns-4
-returns-4 c =
+returns-5 : tie.Need-returns-5
+returns-5 c =
     let w = c .before .before in
     let o = opened w in
     let a = start o .args in
-    λ t past r s. takes-on r s (a .k) (a .entry) (there o) (free w r) (told o r) (w .before .wide .ensures .0) (w .wide2 .ensures .0) (c .if2 .left)
+    λ t past r s.
+    takes-on r s (a .k) (a .entry) (there o) (force o) (free w r) (told o r) (w .before .wide .ensures .0) (w .wide2 .ensures .0) (c .if3 .left)
 
 pub take-step-spec : {M : Type 1} → statement M
 take-step-spec =
@@ -118,19 +143,22 @@ take-step-spec =
     (tie.spec
     stops-requires
     returns
+    in-force-requires
+    stops-requires-2
+    returns-2
     action-at-requires
     barred-requires
     enum-known-v
-    stops-requires-2
-    returns-2
+    stops-requires-3
+    returns-3
     enum-told
     wide-requires
     mul-mark
     wide-requires-2
     add-mark
-    element-copy-out-if2
-    stops-requires-3
-    returns-3
+    element-copy-out-if3
+    stops-requires-4
+    returns-4
     element-write-held
     element-write-state
-    returns-4)
+    returns-5)

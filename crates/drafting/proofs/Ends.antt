@@ -1,0 +1,52 @@
+-- The end: 7 where an action repeats an earlier one, and else the file loads.
+-- Assumes nothing.
+use mathlib.Core.Path.{_≡_, sym, ap, _∙_, subst}
+use mathlib.Core.Logic.{_≢_}
+use mathlib.Core.Option.{Option, none, some}
+use mathlib.Core.List.{List, [], _∷_}
+use Prim.Native.Nat.{ℕ, _+_}
+use native.Mathlib.Omega.{arith}
+use lib.ListN.{length, getD, length-drop}
+use borrow.Author.Tests.{le-ltb, eq-eqb}
+use Rattle.study.specs.Study.{Study}
+use Rattle.study.specs.Reading.{says, refused, Draft, end, fault, firstRepeat, ended, taken, unless, mayFollow, reading}
+use Rattle.lawful.proofs.Sound.{Sound}
+use Rattle.entering.specs.declared.Progress.{Progress}
+use Rattle.pacing.proofs.Reached.{settles}
+use Rattle.spelling.specs.Spelling.{spelledRecord, spelled}
+use Rattle.spelling.specs.Lists.{Lists, listsOf, fileOf}
+use Rattle.spelling.proofs.ReadBack.{all-retold}
+use Rattle.repeats.specs.Repeats.{Small}
+use Rattle.drafting.specs.Drafts.{Drafted, RepeatedIn}
+use Rattle.drafting.proofs.OneRecord.{verdict-here}
+
+sound-small : {d : Draft} → Sound d → Small (d .study .actions)
+sound-small sound i h =
+    let a = sound .actions .each i h in
+    omega (arith, a .has-post .there, a .has-post .small, sound .counts .few, sound .counts .few-values _ (a .has-post .there))
+
+module _ (l : Lists) {counts : List ℕ} {p : Progress} (h : Drafted (fileOf l) counts p (end ∷ [])) (last : p .last ≡ 5) where
+  long : p .at + 1 ≡ length (fileOf l)
+  unfolding spelled spelledRecord
+  long = omega (arith, length-drop (p .at) (fileOf l), ap length (h .rest), h .inside)
+
+  said : (repeat : Option ℕ) → firstRepeat (h .draft .study) ≡ repeat → reading (fileOf l) ≡ ended (fileOf l) (p .at + 1) (h .draft) repeat
+  unfolding taken fault unless mayFollow
+  said repeat e = settles (h .reached) (h .inside) (verdict-here end h (eq-eqb (p .last) 5 last) ∙ rw e)
+
+  module _ {place : ℕ} (repeated : RepeatedIn l place) where
+    -- the lists' repeat is the draft's
+    of-the-draft : RepeatedIn (listsOf (h .draft .study)) place
+    of-the-draft = subst (λ (m : Lists). RepeatedIn m place) (sym (all-retold l (h .retold) (h .rest) (sym (h .knows .last) ∙ last))) repeated
+
+    small : Small (h .draft .study .actions)
+    small = sound-small (h .retold .met .sound)
+
+    pub loads : place ≡ 0 → ((s : Study) × (reading (fileOf l) ≡ says s)) × (p .at + 1 ≡ length (fileOf l))
+    loads e =
+        ((h .draft .study, said none (of-the-draft .none-repeats small e) ∙ rw (le-ltb (p .at + 1) (length (fileOf l)) (omega (arith, long)))), long)
+
+    pub repeats-there : place ≢ 0 → reading (fileOf l) ≡ refused 7 place
+    repeats-there differ =
+        let (k, (is, there)) = of-the-draft .repeats small differ in
+        said (some k) is ∙ ap (refused 7) (ap (λ (places : List ℕ). getD places k 0) (h .retold .met .placed .places) ∙ there)

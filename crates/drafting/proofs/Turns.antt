@@ -1,0 +1,107 @@
+-- Which kinds may come after which, as the lists come one after another, and how far the place is then.
+-- Assumes nothing.
+use mathlib.Core.Path.{_≡_}
+use mathlib.Core.Logic.{_⊎_, inl, inr, _≢_}
+use mathlib.Core.Bool.{Bool, true, false, _&&_, and-eq-true-iff, and-false, or-true, false≢true}
+use mathlib.Core.List.{List, [], _∷_, _++_, map}
+use Prim.Native.Nat.{ℕ, _≤_, _<_}
+use native.Mathlib.Omega.{arith}
+use lib.Dec.{leb, ltb, eqb}
+use borrow.Author.Tests.{leb-true, le-leb, le-ltb, lt-ltb}
+use Rattle.plain.proofs.Tests.{either}
+use Rattle.study.specs.Study.{Action}
+use Rattle.study.specs.Reading.{Record, variable, action, condition, task, seed, end, times, present, mayFollow}
+use Rattle.entering.specs.declared.Progress.{Progress}
+use Rattle.pacing.specs.Reads.{Bounds}
+use Rattle.spelling.specs.Spelling.{kindOf}
+use Rattle.spelling.specs.Lists.{Errand, taskRecord, actionRecords}
+use Rattle.drafting.specs.Drafts.{NoVariableYet, VariablesGoOn, ActionsGoOn, TasksGoOn, BehindVariables}
+
+module _ {last : ℕ} where
+  pub first-variable : NoVariableYet last → VariablesGoOn last
+  unfolding mayFollow
+  first-variable (inl e) = rw e
+  first-variable (inr e) = rw e
+
+  pub next-variable : last ≡ 1 → VariablesGoOn last
+  unfolding mayFollow
+  next-variable e = rw e
+
+  pub first-action : last ≡ 1 → ActionsGoOn last
+  unfolding mayFollow
+  first-action e = rw e
+
+  pub behind-conditions : 2 ≤ last → last ≤ 3 → ActionsGoOn last
+  unfolding mayFollow
+  behind-conditions low high = rw (le-leb 1 last (omega arith), le-leb last 3 high)
+
+  pub behind-situations : last ≡ 7 → ActionsGoOn last
+  unfolding mayFollow
+  behind-situations e = rw e
+
+  pub next-task : last ≡ 4 → TasksGoOn last
+  unfolding mayFollow
+  next-task e = rw e
+
+  -- none of them comes behind the seed
+  pub variable-early : VariablesGoOn last → last ≢ 5
+  unfolding mayFollow
+  variable-early h e = false≢true (rw e at h)
+
+  pub action-early : ActionsGoOn last → last ≢ 5
+  unfolding mayFollow
+  action-early h e = false≢true (rw e at h)
+
+  pub task-early : TasksGoOn last → last ≢ 5
+  unfolding mayFollow
+  task-early h e = false≢true (rw e at h)
+
+  -- before a variable none of the others may come
+  pub too-early : NoVariableYet last → (r : Record) → 2 ≤ kindOf r → kindOf r ≤ 5 → (left : Bool) → mayFollow left last (kindOf r) ≡ false
+  unfolding mayFollow
+  too-early (inl e) (variable n) low high left = absurd (omega arith)
+  too-early (inl e) (action v p q) low high left = rw e
+  too-early (inl e) (condition v q) low high left = rw e
+  too-early (inl e) (task v p q) low high left = rw e
+  too-early (inl e) (seed n) low high left = rw e
+  too-early (inl e) end low high left = absurd (omega arith)
+  too-early (inl e) (times n) low high left = absurd (omega arith)
+  too-early (inl e) (present n) low high left = absurd (omega arith)
+  too-early (inr e) (variable n) low high left = absurd (omega arith)
+  too-early (inr e) (action v p q) low high left = rw e
+  too-early (inr e) (condition v q) low high left = rw e
+  too-early (inr e) (task v p q) low high left = rw e
+  too-early (inr e) (seed n) low high left = rw e
+  too-early (inr e) end low high left = absurd (omega arith)
+  too-early (inr e) (times n) low high left = absurd (omega arith)
+  too-early (inr e) (present n) low high left = absurd (omega arith)
+
+module _ (last : ℕ) where
+  pub behind-actions : ActionsGoOn last → TasksGoOn last
+  unfolding mayFollow
+  behind-actions h = go (either (leb 1 last && leb last 3) (eqb last 7) h)
+    where
+      go : ((leb 1 last && leb last 3) ≡ true) ⊎ (eqb last 7 ≡ true) → TasksGoOn last
+      go (inl m) =
+          let t = and-eq-true-iff (leb 1 last) (leb last 3) .0 m in
+          rw (t .0, le-leb last 4 (omega (arith, leb-true last 3 (t .1))))
+      go (inr m) = rw (m, or-true (leb 1 last && leb last 4))
+
+  -- a task is wanted as long as some variable lacks one
+  pub task-wanted : {tasks vars : ℕ} → TasksGoOn last → tasks < vars → mayFollow (ltb tasks vars) last 4 ≡ true
+  task-wanted {tasks} {vars} h less = rw (lt-ltb tasks vars less) h
+
+  pub no-task-wanted : {tasks vars : ℕ} → vars ≤ tasks → mayFollow (ltb tasks vars) last 4 ≡ false
+  unfolding mayFollow
+  no-task-wanted {tasks} {vars} all = rw (le-ltb tasks vars all, and-false)
+
+-- before the seed the place is near
+pub not-far : {p : Progress} {counts : List ℕ} → Bounds p counts → p .last ≢ 5 → p .at ≤ 30000
+not-far bounds early = omega (arith, bounds .short early, bounds .few-vars, bounds .few-actions, bounds .few-tasks, bounds .low)
+
+-- behind the variables come actions, tasks, the seed
+pub others-follow : (actions : List Action) (tasks : List Errand) (n : ℕ) → BehindVariables (actionRecords actions ++ (map taskRecord tasks ++ (seed n ∷ end ∷ [])))
+unfolding actionRecords
+others-follow [] [] n = omega arith
+others-follow [] (t ∷ tasks) n = omega arith
+others-follow (a ∷ actions) tasks n = omega arith

@@ -1,0 +1,46 @@
+-- The end record: 7 at the place of the first action that repeats, then 8, or else the study that the tables hold.
+-- Assumes nothing.
+use mathlib.Core.Path.{_≡_, subst}
+use mathlib.Core.Option.{Option}
+use mathlib.Core.List.{List}
+use Prim.Native.Nat.{ℕ, _+_, _≤_, _<_}
+use native.Mathlib.Omega.{arith}
+use lib.ListN.{length, getD}
+use borrow.Author.Tests.{lt-ltb, le-ltb}
+use Rattle.study.specs.Reading.{refused, Draft, Verdict, settled, ended, firstRepeat}
+use Rattle.tables.specs.Tables.{Tables, tables, actionTables, HoldsTasks}
+use Rattle.entering.specs.declared.Progress.{Progress}
+use Rattle.entering.specs.declared.Step.the-variants.{Done}
+use Rattle.setters.specs.Filling.{Filled}
+use Rattle.setters.proofs.Naming.{beside}
+use Rattle.pacing.specs.Reads.{Stands, Meets}
+
+module _ {file : List ℕ} {p : Progress} {t : Tables} {d : Draft} (stands : Stands file p t d) {setters : List ℕ} {r : ℕ} (filled : Filled (d .study .situation) (p .actions) (d .study .actions) setters r) (next : ℕ) where
+  abbrev says-so : Option ℕ → Verdict
+  says-so repeat = settled (ended file next d repeat)
+
+  pub ends-with-7 : r < p .actions → {place : ℕ} → place + 4 ≡ getD (t .acts .places) r 0 → says-so (firstRepeat (d .study)) ≡ settled (refused 7 place)
+  ends-with-7 less {place} e =
+      let here : getD (d .places) r 0 ≡ place = omega (arith, stands .places r less) in
+      rw (filled .repeats less, here)
+
+  module _ (all : r ≡ p .actions) where
+    pub ends-with-8 : next < length file → says-so (firstRepeat (d .study)) ≡ settled (refused 8 next)
+    ends-with-8 more = rw (filled .none-repeats all, lt-ltb next (length file) more)
+
+    pub ends-well :
+        length file ≤ next → p .last ≡ 5 → p .tasks ≤ p .vars
+        → Meets file (says-so (firstRepeat (d .study)))
+        (tables (t .counts) (actionTables setters (t .acts .vars) (t .acts .pres) (t .acts .posts) (t .acts .places) (t .acts .manys) (t .acts .outs)) (t .starts) (t .goals)) (Done p)
+    ends-well no-more last few = (
+      d .study,
+      rw (filled .none-repeats all, le-ltb next (length file) no-more),
+      record {
+        sized = omega (arith, filled .long all);
+        counts = stands .knows .counts;
+        actions = beside (stands .actions) setters;
+        setters = filled .names all;
+        tasks = subst (λ (n : ℕ). HoldsTasks n (t .starts) (t .goals) (d .study .tasks)) (omega (arith, stands .all-tasks last)) (stands .tasks);
+        seed = stands .seed;
+      },
+    )
