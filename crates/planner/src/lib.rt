@@ -23,7 +23,7 @@ pub fn plan(file: &[u8], ranks: &[u8], plan: &mut [u8]) -> Answer
     };
     let tested = ranking::test(ranks, actions);
     let Tested::Fine = tested else {
-        return stages::answers::unranked(tested, ranks.len());
+        return handing::unranked(tested, ranks.len());
     };
     stages::plan_loaded(file, ranks, n, actions, &acts, &vars, &mut setters, plan)
 }

@@ -1,4 +1,3 @@
 pub mod Drawing
-pub mod Outcomes
 pub mod Stages
 pub mod Few

@@ -1,39 +1,38 @@
 -- From one stage to the next: what is known of the study in the tables that each function is lent.
 -- Assumes nothing.
 use mathlib.Core.Path.{_≡_, refl, _∙_}
-use mathlib.Core.Logic.{inl, inr}
-use mathlib.Core.List.{List, [], _∷_}
+use mathlib.Core.List.{List}
 use Prim.Native.Nat.{ℕ, zero, suc, _+_, _*_, _≤_, _<_}
 use native.Mathlib.Omega.{arith}
 use lib.ListN.{length, getD, take, drop, replicate}
 use Rattle.ranking.specs.Ranking.{tested}
-use Rattle.ranking.specs.declared.Tested.{Tested}
-use Rattle.ranking.specs.declared.Tested.the-variants.{Fine, Length, Entry}
-use Rattle.ranking.proofs.Tested.{the-type}
-use types.Run.{OneOf}
-use denote.Enum.Declared.{tagOf}
+use Rattle.ranking.specs.declared.Tested.the-variants.{Fine}
 use Rattle.ranking.proofs.Fine.{fine-is-rank-list}
 use Rattle.ranks.specs.Ranks.{RankList, Apart}
 use Rattle.ranks.proofs.Placed.{rank-list-apart}
 use Rattle.study.specs.Study.{Study}
 use Rattle.tables.specs.Rows.{Begins}
 use Rattle.tables.specs.Tables.{ActionTables}
-use Rattle.planning.specs.Refusals.{notRanked, offWalk}
-use Rattle.planning.specs.Planning.{Plans, LowestOff, wrong-length, wrong-entry, off-walk}
-use Rattle.walks.specs.Walks.{Met, startOf, goalOf}
+use Rattle.planning.specs.Refusals.{offWalk}
+use Rattle.planning.specs.Planning.{Plans, LowestOff, off-walk}
+use Rattle.walks.specs.Walks.{Walks, Met, startOf, goalOf}
 use Rattle.tracing.specs.Facts.{Tells, Moves, Wishes}
 use Rattle.tracing.specs.Steps.{EmptyRow, Rowed, Members}
 use Rattle.tracing.proofs.Ranges.{few-tasks}
 use Rattle.wanting.specs.Wanting.{Counts}
 use Rattle.taking.specs.Taking.{Prepared, TakenGreedily}
-use Rattle.stages.specs.Whole.{Known, Given, Walking, Taken}
-use Rattle.stages.proofs.Outcomes.{rowed-walks, few-in-all}
+use Rattle.handing.specs.Handing.{Taken}
+use Rattle.handing.proofs.Outcomes.{few-in-all}
+use Rattle.stages.specs.Whole.{Known, Given, Walking}
 
 -- a table of zeros holds 0 wherever one looks
 pub all-zeros : (n j : ℕ) → _≡_ {A = ℕ} (getD (replicate n 0) j 0) 0
 all-zeros zero j = refl
 all-zeros (suc n) zero = refl
 all-zeros (suc n) (suc j) = all-zeros n j
+
+rowed-walks : {t : Study} {n : ℕ} {steps : List ℕ} → n ≡ length (t .tasks) → Rowed t n steps → Walks t
+rowed-walks e rowed v h = let r = rowed v (rw e h) in (r .0, r .1 .0)
 
 -- with a rank list, what is known is given
 pub known-given :
@@ -48,18 +47,6 @@ known-given ranks known ranked =
       tasks = known .tasks;
       ranked = ranked;
     }
-
--- a list that is no rank list is refused by 9
-pub not-ranked :
-    {t : Study} {ranks before : List ℕ} (r : Tested) → tested ranks (length (t .actions)) ≡ r → OneOf (1 ∷ 2 ∷ []) (tagOf the-type r)
-    → Plans t ranks before (notRanked (length ranks) r) before
-not-ranked Fine e h = absurd (neither h)
-  where
-    neither : OneOf (1 ∷ 2 ∷ []) 0 → ⊥
-    neither (inl x) = omega arith
-    neither (inr x) = omega arith
-not-ranked Length e h = wrong-length e
-not-ranked (Entry k) e h = wrong-entry e
 
 module _
     {file ranks : List ℕ} {n a : ℕ} {acts : ActionTables} {starts goals : List ℕ} {t : Study}

@@ -3,17 +3,16 @@
 use Prim.Native.Nat.{ℕ}
 use mathlib.Core.Path.{_≡_}
 use mathlib.Core.List.{List}
-use lib.ListN.{length, take, drop}
+use lib.ListN.{length}
 use Rattle.ranking.specs.Ranking.{tested}
 use Rattle.ranking.specs.declared.Tested.the-variants.{Fine}
 use Rattle.study.specs.Study.{Study}
 use Rattle.lawful.specs.Lawful.{Lawful}
 use Rattle.tables.specs.Tables.{ActionTables, HoldsActions, NamesSetters, HoldsTasks}
 use Rattle.tables.specs.Rows.{Row, startColumn, goalColumn, seen}
-use Rattle.walks.specs.Walks.{Walks, Met, startOf}
+use Rattle.walks.specs.Walks.{startOf}
 use Rattle.tracing.specs.Facts.{Tells}
 use Rattle.tracing.specs.Steps.{Rowed, Members}
-use Rattle.taking.specs.Taking.{TakenGreedily}
 
 -- the tables hold a lawful study
 pub record Known (file : List ℕ) (n a x : ℕ) (acts : ActionTables) (starts goals : List ℕ) (t : Study) : Type 0 where
@@ -45,17 +44,6 @@ pub record Walking (file ranks : List ℕ) (n total : ℕ) (acts : ActionTables)
   pub list : List ℕ
   pub members : Members t list
   pub counted : length list ≡ total
-
--- so many actions were taken greedily, and stand in the room from 256 on
-pub record Taken (t : Study) (ranks : List ℕ) (total taken : ℕ) (room : List ℕ) : Type 0 where
-  pub lawful : Lawful t
-  pub ranked : tested ranks (length (t .actions)) ≡ Fine
-  pub walks : Walks t
-  pub met : Met t
-  pub list : List ℕ
-  pub members : Members t list
-  pub counted : length list ≡ total
-  pub greedy : TakenGreedily t ranks (take taken (drop 256 room))
 
 -- the same of tables in rows
 abbrev pub KnownIn : List ℕ → ℕ → ℕ → ℕ → List Row → List Row → List ℕ → Study → Type 0

@@ -1,52 +1,18 @@
 // The stages of planning what was loaded: walks, conditions on them, actions taken by rank, the plan written.
-pub mod answers;
-
 ghost use mathlib.Core.Path.{_≡_};
-ghost use mathlib.Core.List.{_++_};
 ghost use Prim.Native.Nat.{ℕ, _≤_};
-ghost use mathlib.Core.List.{List};
-ghost use lib.ListN.{length, take, drop};
+ghost use lib.ListN.{length};
 ghost use Rattle.study.specs.Study.{Study};
 ghost use Rattle.planning.specs.Planning.{Plans};
 ghost use Rattle.draw.specs.Draw.{drawn};
-ghost use Rattle.stages.specs.Whole.{KnownIn, GivenIn, WalkingIn, Taken};
+ghost use Rattle.stages.specs.Whole.{KnownIn, GivenIn, WalkingIn};
 use answer::Answer;
-use choosing::Choice;
 use ordering::Found;
 use tracing::Walked;
 use wanting::Met;
 
 // Up to so many actions a set of ranks is one word.
 const FEW: usize = 64;
-
-// The first n of the actions taken become the plan's first.
-fn copy_out(room: &[u8; 512], n: usize, plan: &mut [u8])
-    requires { ⌜ (n ≤ 256) × (n ≤ length (now plan)) × (length (now room) ≡ 512) ⌝ }
-    ensures { λ _. ⌜ now (plan .exit) ≡ take n (drop 256 (now (room .entry))) ++ drop n (now (plan .entry)) ⌝ }
-{
-    let mut k = 0;
-    while k < n {
-        plan[k] = room[256 + k];
-        k += 1;
-    }
-}
-
-// So many of the walk actions were taken.
-fn finish(taken: usize, total: usize, room: &[u8; 512], plan: &mut [u8]) -> Answer
-    requires { ⌜ (taken ≤ total) × (total ≤ 256) × (length (now room) ≡ 512) ⌝ }
-    ensures { λ r. ⌜ ((t : Study) (ranks : List ℕ)
-        → Taken t ranks total taken (now (room .entry))
-        → Plans t ranks (now (plan .entry)) r (now (plan .exit))) ⌝ }
-{
-    if taken < total {
-        return answers::unchosen(Choice::Nothing, taken);
-    }
-    if plan.len() < total {
-        return answers::numbers(13, total, 0);
-    }
-    copy_out(room, total, plan);
-    answers::numbers(0, total, 0)
-}
 
 // Every variable has a walk, and there are many actions: a variable waits for another.
 fn plan_many(
@@ -69,7 +35,7 @@ fn plan_many(
     let mut wants = [0u16; 512];
     let met = wanting::want_all(file, ranks.len(), acts, steps, &mut wants);
     let Met::All = met else {
-        return answers::unmet(met);
+        return handing::unmet(met);
     };
     let mut state = [0u8; 32];
     tables::set_out(n, vars, &mut state);
@@ -85,7 +51,7 @@ fn plan_many(
         &mut state,
         room,
     );
-    finish(taken, total, room, plan)
+    handing::finish(taken, total, room, plan)
 }
 
 // .. and there are few: their ranks are bits of one word.
@@ -117,11 +83,11 @@ fn plan_few(
         &mut words,
     );
     let Found::Members(members) = found else {
-        return answers::unordered(found);
+        return handing::unordered(found);
     };
     ranking::name_all(ranks, room);
     let taken = hanging::take(members, total, &mut words, room);
-    finish(taken, total, room, plan)
+    handing::finish(taken, total, room, plan)
 }
 
 // What was loaded, with a rank list of it. The table of setters is used up: its room takes the actions by rank, and those
@@ -145,7 +111,7 @@ pub fn plan_loaded(
     let mut steps = [0u16; 512];
     let walked = tracing::walk_all(n, actions, acts, vars, setters, &mut steps);
     let Walked::All(total) = walked else {
-        return answers::unwalked(walked);
+        return handing::unwalked(walked);
     };
     if FEW < actions {
         return plan_many(file, ranks, n, total, acts, vars, &steps, setters, plan);

@@ -3,7 +3,8 @@
 use mathlib.Core.Path.{refl, sym, ap, _∙_}
 use Rattle.tables.proofs.Fresh.{fresh-sized}
 use Rattle.tables.specs.Numbers.{notLoaded}
-use Rattle.stages.proofs.Stages.{known-given, not-ranked}
+use Rattle.handing.proofs.NotRanked.{not-ranked}
+use Rattle.stages.proofs.Stages.{known-given}
 use Rattle.planner.proofs.Loading.{loaded-known}
 use borrow.Author.Needs.{needs}
 use Rattle.planner.proofs.plan.Statement.{statement}

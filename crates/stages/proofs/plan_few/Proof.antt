@@ -2,7 +2,7 @@
 -- Assumes nothing.
 use mathlib.Core.Path.{refl, ap, _∙_}
 use native.Mathlib.Omega.{arith}
-use Rattle.stages.specs.Answers.{notOrdered}
+use Rattle.handing.specs.Answers.{notOrdered}
 use Rattle.stages.proofs.Stages.{all-zeros, all-few, ranks-apart, walking-off, walking-taken}
 use Rattle.stages.proofs.Few.{walking-orderable, rank-below, members-counted, none-hung, taken-greedily}
 use borrow.Author.Needs.{needs}

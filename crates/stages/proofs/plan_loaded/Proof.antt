@@ -3,7 +3,7 @@
 use mathlib.Core.Path.{refl, ap, _∙_}
 use native.Mathlib.Omega.{arith}
 use Rattle.planning.specs.Planning.{no-walk}
-use Rattle.stages.specs.Answers.{notWalked}
+use Rattle.handing.specs.Answers.{notWalked}
 use Rattle.stages.proofs.Stages.{given-moves, given-starts, given-goals, given-ranked, given-traced, given-walking, as-many-ranks}
 use borrow.Author.Needs.{needs}
 use Rattle.stages.proofs.plan_loaded.Statement.{statement}

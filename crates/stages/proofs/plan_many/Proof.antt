@@ -1,7 +1,7 @@
 -- `stages::plan_many` meets its contract: a condition off its walk is refusal 11, else what is taken is taken greedily.
 -- Assumes nothing.
 use mathlib.Core.Path.{refl, ap, _∙_}
-use Rattle.stages.specs.Answers.{notMet}
+use Rattle.handing.specs.Answers.{notMet}
 use Rattle.stages.proofs.Stages.{all-zeros, all-few, ranks-apart, walking-wishes, walking-rowed, walking-off, walking-taken, walking-prepared}
 use borrow.Author.Needs.{needs}
 use Rattle.stages.proofs.plan_many.Statement.{statement}

@@ -1,8 +1,8 @@
--- `stages::answers::unranked` meets its contract: the case says which numbers are answered.
+-- `handing::unranked` meets its contract: the case says which numbers are answered.
 -- Assumes nothing.
 use borrow.Author.Needs.{needs}
-use Rattle.stages.proofs.answers.unranked.Statement.{statement}
-use Rattle.stages.proofs.answers.unranked.Tie as tie
+use Rattle.handing.proofs.unranked.Statement.{statement}
+use Rattle.handing.proofs.unranked.Tie as tie
 
 enum-told : tie.Need-enum-told
 enum-told c = search needs

@@ -15,16 +15,13 @@ use Rattle.orders.proofs.Lists.{fewer-miss-one, distinct-fills}
 use Rattle.orders.proofs.Images.{few-images}
 use Rattle.orders.proofs.Members.{takes-distinct, takes-members}
 use Rattle.orders.proofs.Grown.{greedy-so-far, greedy-so-far-takes}
-use Rattle.walks.specs.Walks.{OnAWalk, ComesBefore, Walks}
+use Rattle.walks.specs.Walks.{OnAWalk, ComesBefore}
 use Rattle.walks.proofs.Leads.{on-walk-usable}
 use Rattle.planning.specs.Refusals.{withRing, shortBuffer}
 use Rattle.planning.specs.Planning.{Plans, ring, no-room, a-plan, FirstPlan, rankIn}
 use Rattle.planning.proofs.Found.{greedy-is-first-plan, greedy-stuck}
-use Rattle.tracing.specs.Steps.{Rowed, Members}
-use Rattle.stages.specs.Whole.{Taken}
-
-pub rowed-walks : {t : Study} {n : ℕ} {steps : List ℕ} → n ≡ length (t .tasks) → Rowed t n steps → Walks t
-rowed-walks e rowed v h = let r = rowed v (rw e h) in (r .0, r .1 .0)
+use Rattle.tracing.specs.Steps.{Members}
+use Rattle.handing.specs.Handing.{Taken}
 
 -- no more walk actions than 256
 pub few-in-all : {t : Study} {list : List ℕ} → Lawful t → Members t list → length list ≤ 256

@@ -1,10 +1,10 @@
--- `stages::finish` meets its contract: what was taken greedily is all, and the first plan, or fewer, and there is a ring.
+-- `handing::finish` meets its contract: what was taken greedily is all, and the first plan, or fewer, and there is a ring.
 -- Assumes nothing.
 use native.Mathlib.Omega.{arith}
-use Rattle.stages.proofs.Outcomes.{fewer-is-ring, too-long, fits}
+use Rattle.handing.proofs.Outcomes.{fewer-is-ring, too-long, fits}
 use borrow.Author.Needs.{needs}
-use Rattle.stages.proofs.finish.Statement.{statement}
-use Rattle.stages.proofs.finish.Tie as tie
+use Rattle.handing.proofs.finish.Statement.{statement}
+use Rattle.handing.proofs.finish.Tie as tie
 
 unchosen-requires : tie.Need-unchosen-requires
 unchosen-requires c κs = search needs

@@ -1,4 +1,4 @@
--- `stages::copy_out` meets its contract: the first k entries are copied, and the later ones are as they came.
+-- `handing::copy_out` meets its contract: the first k entries are copied, and the later ones are as they came.
 -- Assumes nothing.
 use mathlib.Core.Path.{_≡_, refl, _∙_}
 use mathlib.Core.List.{_++_}
@@ -8,8 +8,8 @@ use lib.ListN.{length, take, drop, length-set, length-drop}
 use lib.Seq.{getD-drop}
 use borrow.Author.Needs.{needs}
 use Rattle.plain.proofs.Copies.{copied-one-more}
-use Rattle.stages.proofs.copy_out.Statement.{statement}
-use Rattle.stages.proofs.copy_out.Tie as tie
+use Rattle.handing.proofs.copy_out.Statement.{statement}
+use Rattle.handing.proofs.copy_out.Tie as tie
 
 abbrev Inv-loop : tie.InvT-loop
 Inv-loop room n plan₀ k₀ plan k = (k ≤ n) × ((plan ≡ take k (drop 256 room) ++ drop k plan₀) × (length plan ≡ length plan₀))

@@ -1,8 +1,8 @@
--- `stages::answers::unchosen` meets its contract: the case says which numbers are answered.
+-- `handing::unwalked` meets its contract: the case says which numbers are answered.
 -- Assumes nothing.
 use borrow.Author.Needs.{needs}
-use Rattle.stages.proofs.answers.unchosen.Statement.{statement}
-use Rattle.stages.proofs.answers.unchosen.Tie as tie
+use Rattle.handing.proofs.unwalked.Statement.{statement}
+use Rattle.handing.proofs.unwalked.Tie as tie
 
 enum-told : tie.Need-enum-told
 enum-told c = search needs
@@ -10,8 +10,8 @@ enum-told c = search needs
 numbers-requires : tie.Need-numbers-requires
 numbers-requires c κs = search needs
 
-enum-told-2 : tie.Need-enum-told-2
-enum-told-2 c = search needs
+enum-known-walked : tie.Need-enum-known-walked
+enum-known-walked c = search needs
 
 numbers-requires-2 : tie.Need-numbers-requires-2
 numbers-requires-2 c κs = search needs
@@ -20,15 +20,15 @@ returns : tie.Need-returns
 returns c = rw (c .before .enum-told .given .1) (c .numbers .ensures)
 
 returns-2 : tie.Need-returns-2
-returns-2 c = rw (c .before .enum-told2 .given .1) (c .numbers2 .ensures)
+returns-2 c = rw (c .before .before .walked .given .1) (c .numbers2 .ensures)
 
-pub unchosen-spec : {M : Type 1} → statement M
-unchosen-spec =
+pub unwalked-spec : {M : Type 1} → statement M
+unwalked-spec =
     tie.close
     (tie.spec
     enum-told
     numbers-requires
-    enum-told-2
+    enum-known-walked
     numbers-requires-2
     returns
     returns-2)

@@ -1,0 +1,2 @@
+pub mod NotRanked
+pub mod Outcomes

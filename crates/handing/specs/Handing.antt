@@ -1,0 +1,24 @@
+-- What was taken of a study, before it is handed over.
+-- Assumes nothing.
+use Prim.Native.Nat.{ℕ}
+use mathlib.Core.Path.{_≡_}
+use mathlib.Core.List.{List}
+use lib.ListN.{length, take, drop}
+use Rattle.ranking.specs.Ranking.{tested}
+use Rattle.ranking.specs.declared.Tested.the-variants.{Fine}
+use Rattle.study.specs.Study.{Study}
+use Rattle.lawful.specs.Lawful.{Lawful}
+use Rattle.walks.specs.Walks.{Walks, Met}
+use Rattle.tracing.specs.Steps.{Members}
+use Rattle.taking.specs.Taking.{TakenGreedily}
+
+-- so many actions were taken greedily, and stand in the room from 256 on
+pub record Taken (t : Study) (ranks : List ℕ) (total taken : ℕ) (room : List ℕ) : Type 0 where
+  pub lawful : Lawful t
+  pub ranked : tested ranks (length (t .actions)) ≡ Fine
+  pub walks : Walks t
+  pub met : Met t
+  pub list : List ℕ
+  pub members : Members t list
+  pub counted : length list ≡ total
+  pub greedy : TakenGreedily t ranks (take taken (drop 256 room))
