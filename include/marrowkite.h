@@ -73,7 +73,7 @@
  * At most, in bytes, whatever the arguments; the tests hold every call that they make to it:
  *
  *   marrowkite_check          2,560
- *   marrowkite_plan           5,376
+ *   marrowkite_plan           5,120
  *   marrowkite_plan_seeded    5,376
  *   marrowkite_run            3,200
  *   marrowkite_draw             128

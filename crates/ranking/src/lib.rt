@@ -19,18 +19,19 @@ pub fn test(ranks: &[u8], actions: usize) -> Tested
     if ranks.len() != actions {
         return Tested::Length;
     }
-    let mut met = [0u8; 256];
+    let mut met = [0u64; 4];
     let mut k = 0;
     while k < ranks.len() {
         let entry = ranks[k];
-        let i = entry as usize;
-        if actions <= i {
+        if actions <= entry as usize {
             return Tested::Entry(k);
         }
-        if met[i] != 0 {
+        let repeats = bits::contains(&met, entry);
+        // before the branch: two instructions less for each entry than after it
+        bits::add(&mut met, entry);
+        if repeats {
             return Tested::Entry(k);
         }
-        met[i] = 1;
         k += 1;
     }
     Tested::Fine

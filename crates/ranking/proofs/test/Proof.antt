@@ -1,11 +1,12 @@
--- `ranking::test` meets its contract: each turn tests one entry against the marks of the earlier ones.
+-- `ranking::test` meets its contract: each turn tests one entry against the set of the earlier ones.
 -- Assumes nothing.
-use mathlib.Core.Path.{_≡_, sym}
+use mathlib.Core.Path.{_≡_, sym, _∙_}
 use mathlib.Core.List.{List, []}
 use Prim.Native.Nat.{ℕ, _-_}
 use native.Mathlib.Omega.{arith}
 use lib.ListN.{length}
 use borrow.Author.Tests.{eq-eqb, ne-eqb}
+use borrow.Author.Needs.{needs}
 use Rattle.ranking.specs.Ranking.{testedFrom, tested}
 use Rattle.ranking.specs.declared.Tested.{Tested}
 use Rattle.ranking.proofs.Marks.{Marked, none-marked, too-large, repeated, one-more, all-tested}
@@ -33,25 +34,27 @@ loop-holds c = none-marked _ _
 shared-slice-read-entry : tie.Need-shared-slice-read-entry Inv-loop μ-loop
 shared-slice-read-entry c = omega arith
 
-cast-i : tie.Need-cast-i Inv-loop μ-loop
-cast-i c = omega (arith, c .shared-slice-known .given (c .before .before .loop .k))
+cast-if2 : tie.Need-cast-if2 Inv-loop μ-loop
+cast-if2 c = omega (arith, c .shared-slice-known2 .given (c .before .before .loop .k))
 
 returns-2 : tie.Need-returns-2 Inv-loop μ-loop
 returns-2 c =
     let t = c .before .before in
     from-entries _ _ (t .before .before .if1 .left) (too-large (t .before .loop .inv) (t .loop-test .taken) (c .if2 .taken))
 
-array-read-if3 : tie.Need-array-read-if3 Inv-loop μ-loop
-array-read-if3 c = omega (arith, c .before .shared-slice-known .given (c .before .before .before .loop .k))
+contains-requires : tie.Need-contains-requires Inv-loop μ-loop
+contains-requires c κs = search needs
+
+add-requires : tie.Need-add-requires Inv-loop μ-loop
+add-requires c κs = search needs
 
 returns-3 : tie.Need-returns-3 Inv-loop μ-loop
 returns-3 c =
-    let t = c .before .before .before in
+    let n = c .before .before .before in
+    let s = n .before .before in
+    let t = s .before .before in
     from-entries _ _ (t .before .before .if1 .left)
-    (repeated (t .before .loop .inv) (t .loop-test .taken) (c .before .if2 .left) (array-read-if3 (c .before)) (c .if3 .taken))
-
-array-write-met : tie.Need-array-write-met Inv-loop μ-loop
-array-write-met c = omega (arith, c .before .before .shared-slice-known .given (c .before .before .before .before .loop .k))
+    (repeated (t .before .loop .inv) (t .loop-test .taken) (s .if2 .left) (sym (n .contains .ensures) ∙ c .if3 .taken))
 
 add-k : tie.Need-add-k Inv-loop μ-loop
 add-k c = omega arith
@@ -61,8 +64,10 @@ loop-less c = omega arith
 
 loop-again : tie.Need-loop-again Inv-loop μ-loop
 loop-again c =
-    let t = c .before .before .before in
-    one-more (t .before .loop .inv) (t .loop-test .taken) (c .before .if2 .left) (array-write-met c) (c .if3 .left)
+    let n = c .before .before .before in
+    let s = n .before .before in
+    let t = s .before .before in
+    one-more (t .before .loop .inv) (t .loop-test .taken) (s .if2 .left) (sym (n .contains .ensures) ∙ c .if3 .left) (c .before .add .ensures)
 
 returns-4 : tie.Need-returns-4 Inv-loop μ-loop
 returns-4 c = from-entries _ _ (c .before .before .if1 .left) (all-tested (c .before .loop .inv) (c .loop-test .left))
@@ -76,11 +81,11 @@ test-spec =
     returns
     loop-holds
     shared-slice-read-entry
-    cast-i
+    cast-if2
     returns-2
-    array-read-if3
+    contains-requires
+    add-requires
     returns-3
-    array-write-met
     add-k
     loop-less
     loop-again
