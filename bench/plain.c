@@ -5,6 +5,7 @@
 
 void *memcpy(void *to, const void *from, size_t len);
 void *memset(void *to, int byte, size_t len);
+int memcmp(const void *one, const void *other, size_t len);
 
 enum { VARIABLE = 1, ACTION, CONDITION, TASK, SEED, END, SITUATIONS, SITUATION };
 enum { MOST_VARIABLES = 32, MOST_ACTIONS = 256, LARGEST_SEED = 2147483646, ALWAYS = 255 };
@@ -519,4 +520,39 @@ answer plain_write(uint8_t situation, const uint8_t *variables, size_t variables
   if (file_len < judged.first) return refused(13, judged.first);
   spell(&l, file);
   return judged;
+}
+
+/* The plans are kept one after another. Each seed draws and takes anew: the file is read once. */
+answer plain_report(const uint8_t *file, size_t file_len, uint64_t first, uint64_t n, uint8_t *report, size_t report_len) {
+  study s, each;
+  uint8_t ranks[MOST_ACTIONS], plans[64][MOST_ACTIONS];
+  answer loaded = load(file, file_len, &s);
+  if (loaded.number != 0) return loaded;
+  if (n - 1 >= 64) return refused(19, n);
+  if (first - 1 >= LARGEST_SEED) return refused(18, first);
+  if (first + n - 1 > LARGEST_SEED) return refused(18, (uint64_t)LARGEST_SEED + 1);
+  unsigned a = s.actions, different = 0;
+  size_t len = 0;
+  for (unsigned k = 0; k < n; k++) {
+    each = s;
+    draw((uint32_t)(first + k), a, ranks);
+    answer r = plan_loaded(file, ranks, &each, plans[k], MOST_ACTIONS);
+    if (r.number != 0) {
+      if (report_len < 5) return refused(13, 5);
+      memset(report, 0, 5);
+      report[r.number - 9] = (uint8_t)n;
+      return three(0, 5, 0);
+    }
+    len = r.first;
+    unsigned j = 0;
+    while (j < k && memcmp(plans[j], plans[k], len) != 0) j++;
+    different += j == k;
+  }
+  if (report_len < 5 + len * a) return refused(13, 5 + len * a);
+  memset(report, 0, 5 + len * a);
+  report[0] = (uint8_t)n;
+  report[4] = (uint8_t)different;
+  for (unsigned k = 0; k < n; k++)
+    for (size_t p = 0; p < len; p++) report[5 + p * a + plans[k][p]]++;
+  return three(0, 5 + len * a, 0);
 }

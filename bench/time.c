@@ -14,11 +14,11 @@ static double now(void) {
   return (double)t.seconds * 1e9 + (double)t.nanoseconds;
 }
 
-/* A round takes about a third of a millisecond. */
+/* A round takes about a third of a millisecond, a report's up to two. */
 static size_t calls_a_round(given g) {
-  size_t len = 0;
+  size_t len = 0, seeds = g.which == REPORT ? g.two : 1;
   for (int i = 0; i < READ; i++) len += g.len[i];
-  return 20 + 200000 / (20 + len);
+  return 1 + (19 + 200000 / (20 + len)) / seeds;
 }
 
 int main(int count, char **words) {

@@ -48,9 +48,10 @@
  *   16  the step takes a value that was held before               first: the index; second: the variable
  *   17  all steps are done and the goal is not met                first: the lowest variable away from it
  *
- *       the draw
- *   18  the seed is not 1 to 2,147,483,646                        first: the seed
- *   19  the count is above 256                                    first: the count
+ *       the draw, and a report's seeds
+ *   18  the seed is not 1 to 2,147,483,646                        first: the seed; in a report the first such
+ *   19  the count is above 256; a report on no seed, or on more than 64
+ *                                                                 first: the count
  *
  *
  * MEMORY
@@ -79,6 +80,7 @@
  *   marrowkite_draw             128
  *   marrowkite_record_at        128
  *   marrowkite_write            640
+ *   marrowkite_report        10,240
  */
 #ifndef MARROWKITE_H
 #define MARROWKITE_H
@@ -163,6 +165,22 @@ marrowkite_answer marrowkite_write(uint8_t situation, const uint8_t *variables, 
                                    const uint8_t *actions, size_t actions_len, const uint8_t *conditions,
                                    size_t conditions_len, const uint8_t *tasks, size_t tasks_len, uint32_t seed,
                                    uint8_t *file, size_t file_len);
+
+/*
+ * Reports how varied the plans of `n` seeds in a row from `first` on are, the file planned with each: 1 to 8, then 19, 18
+ * (the first seed out of range), 13.
+ * Done: first is the report's length; the report, one byte for each figure, fills the first bytes of `report`:
+ *
+ *   1    how many plans
+ *   3    how many refusals 10, 11 and 12
+ *   1    how many different plans
+ *   A    for each position of a plan: how often each of the file's A actions, in file order, stood there
+ *
+ * All seeds of a file give a plan, and the plans are equally long; or all are refused alike, and the report has 5 bytes.
+ * 65,541 bytes are always enough.
+ */
+marrowkite_answer marrowkite_report(const uint8_t *file, size_t file_len, uint64_t first, uint64_t n, uint8_t *report,
+                                    size_t report_len);
 
 #ifdef __cplusplus
 }

@@ -13,10 +13,11 @@ buffer afterwards):
     run(file, steps, buffer)
     draw(seed, count, buffer)
     write(situation, variables, actions, conditions, tasks, seed, buffer)
+    report(file, first, count, buffer)
 
 record_at and check write nothing; their buffer afterwards is b"". `printed(input)` is what the program prints.
-`calls(seed, n)` yields n calls as (name, inputs), all but writes, and `writes(seed, n)` n writes; `answer(name, inputs)` is
-what such a call answers.
+`calls(seed, n)` yields n calls as (name, inputs), all but writes and reports, `writes(seed, n)` n writes and `reports(seed, n)` n
+reports; `answer(name, inputs)` is what such a call answers.
 
     python3 tests/oracle.py --self-test      document 01's worked cases; both ways of planning on random small files
 """
@@ -34,6 +35,7 @@ VARIABLE, ACTION, CONDITION, TASK, SEED, END, SITUATIONS, SITUATION = 1, 2, 3, 4
 BODY_LENGTH = {VARIABLE: 1, ACTION: 3, CONDITION: 2, TASK: 3, SEED: 4, END: 0, SITUATIONS: 1, SITUATION: 1}
 MOST_VARIABLES, MOST_VALUES, MOST_ACTIONS = 32, 16, 256
 LARGEST_SEED = 2147483646
+MOST_SEEDS = 64
 LONGEST_FILE = 25544
 MOST_SITUATION = 7
 ALWAYS = 255  # the set of all eight situations, which is not written
@@ -590,6 +592,41 @@ def write(situation, variables, actions, conditions, tasks, seed, buffer):
         return refused.numbers, buffer
 
 
+COUNTED_REFUSALS = [10, 11, 12]  # in the order in which planning tests them
+
+
+def figures(study, outcomes):
+    """The report's figures: outcomes are plans, as tuples, or the numbers of refusals."""
+    plans = [outcome for outcome in outcomes if isinstance(outcome, tuple)]
+    counts = [len(plans), *map(outcomes.count, COUNTED_REFUSALS), len(set(plans))]
+    for position in range(len(plans[0]) if plans else 0):
+        for number in range(len(study.actions)):
+            counts.append(sum(plan[position] == number for plan in plans))
+    return counts
+
+
+def outcome_of_seed(study, seed):
+    try:
+        return tuple(planned(study, drawn(seed, len(study.actions))[0]))
+    except Refused as refused:
+        return refused.numbers[0]
+
+
+def report(file, first, count, buffer):
+    try:
+        study = read(file)
+        if not 1 <= count <= MOST_SEEDS:
+            raise Refused(19, count)
+        seeds = range(first, first + count)
+        for seed in seeds:
+            if not 1 <= seed <= LARGEST_SEED:
+                raise Refused(18, seed)
+        counts = figures(study, [outcome_of_seed(study, seed) for seed in seeds])
+        return (0, len(counts), 0), filled(buffer, counts)
+    except Refused as refused:
+        return refused.numbers, buffer
+
+
 CALLS = {
     "record_at": record_at,
     "check": check,
@@ -598,6 +635,7 @@ CALLS = {
     "run": run,
     "draw": draw,
     "write": write,
+    "report": report,
 }
 
 
@@ -1381,6 +1419,55 @@ def writes(seed, n):
 
 
 # ---------------------------------------------------------------------------------------------------------------------
+# Reports
+
+
+def some_seeds(rng):
+    """A first seed and a count: at the edges now and then, and out of range."""
+    count = rng.choice([1, 1, 2, 3, 5, 8, 16, 63, 64] if rng.random() < 0.9 else [0, 65, 2**32, 2**64 - 1])
+    if rng.random() < 0.85:
+        return rng.choice([1, rng.randint(1, LARGEST_SEED - 64)]), count
+    return rng.choice([0, 2**31, 2**64 - 1, LARGEST_SEED, LARGEST_SEED - min(count, 64) + rng.choice([0, 1, 2])]), count
+
+
+def report_on(rng, study, file, first, count):
+    try:
+        length = 5 + len(planned_by_walks(study, range(len(study.actions)))) * len(study.actions)
+    except Refused:
+        length = 5
+    return "report", (file, first, count, rng.choice([some_buffer, room_enough])(rng, length))
+
+
+def report_on_small(rng):
+    study = small_study(rng)
+    return report_on(rng, study, file_of(study), *some_seeds(rng))
+
+
+def report_on_larger(rng):
+    """Few seeds, since each is planned by definitions."""
+    study = rng.choices([middling, large_study], [3, 1])[0](rng)
+    return report_on(rng, study, file_of(study), rng.randint(1, LARGEST_SEED - 64), rng.randint(1, 3))
+
+
+def with_an_action_again(rng):
+    study, _ = solvable_with_steps(rng)
+    study.actions.append(rng.choice(study.actions))
+    return file_of(study)
+
+
+def report_on_damaged(rng):
+    file = rng.choices([damaged_file, beyond_limits, with_an_action_again], [8, 1, 1])[0](rng)
+    return report_on(rng, small_study(rng), file, *some_seeds(rng))
+
+
+def reports(seed, n):
+    """Yields n reports, the same for the same seed and n."""
+    rng = random.Random(seed)
+    for _ in range(n):
+        yield rng.choices([report_on_small, report_on_larger, report_on_damaged], [75, 3, 22])[0](rng)
+
+
+# ---------------------------------------------------------------------------------------------------------------------
 # Self-test
 
 PORTER = bytes.fromhex(
@@ -1775,7 +1862,37 @@ ANSWERS_TO_MEET = {
     "run": set(range(9)) | {13, 14, 15, 16, 17, 20},
     "draw": {0, 13, 18, 19},
     "write": {0, 3, 4, 5, 6, 7, 13},
+    "report": set(range(9)) | {13, 18, 19},
 }
+
+
+def test_reports():
+    """The porter with 64 seeds: two plans, which differ in their first two steps."""
+    numbers, left = report(PORTER, 1, 64, b"\xaa" * 30)
+    assert numbers == (0, 25, 0) and left[25:] == b"\xaa" * 5, (numbers, left)
+    plans, *barred, different = left[:5]
+    assert (plans, barred, different) == (64, [0, 0, 0], 2)
+    at = [list(left[5 + 5 * position : 10 + 5 * position]) for position in range(4)]
+    assert at[0][0] + at[0][1] == 64 and at[0][0] == at[1][1] and at[0][1] == at[1][0] and at[0][0] > 0 and at[0][1] > 0
+    assert at[2] == [0, 0, 0, 64, 0] and at[3] == [0, 0, 64, 0, 0]
+    assert report(PORTER, 1, 64, bytes(24)) == ((13, 25, 0), bytes(24))
+    assert report(coming_round(), 7, 9, b"\xaa" * 6) == ((0, 5, 0), bytes([0, 9, 0, 0, 0, 0xAA]))
+    assert report(two_wanting(1), 7, 64, bytes(5)) == ((0, 5, 0), bytes([0, 0, 0, 64, 0]))
+    assert report(horse_breeder(), 1, 1, bytes(4)) == ((13, 5, 0), bytes(4))
+    assert report(porter((0, 0, 0)), 1, 64, bytes(5)) == ((0, 5, 0), bytes([64, 0, 0, 0, 1]))
+    for first, count, expected in [
+        (1, 0, (19, 0, 0)),
+        (0, 65, (19, 65, 0)),
+        (0, 1, (18, 0, 0)),
+        (LARGEST_SEED, 1, (0, 25, 0)),
+        (LARGEST_SEED, 2, (18, 2147483647, 0)),
+        (LARGEST_SEED - 62, 64, (18, 2147483647, 0)),
+        (LARGEST_SEED - 63, 64, (0, 25, 0)),
+        (2**64 - 1, 64, (18, 2**64 - 1, 0)),
+    ]:
+        assert report(PORTER, first, count, bytes(25))[0] == expected, (first, count)
+    assert report(PORTER[:55], 0, 0, b"")[0] == (1, 55, 0)
+    return "reports worked by hand: agreed"
 
 
 def test_calls(seed, n):
@@ -1783,10 +1900,10 @@ def test_calls(seed, n):
     seen = {name: Counter() for name in CALLS}
     longest_file = longest_plan = longest_written = 0
     drawn_edges = set()
-    for name, inputs in itertools.chain(calls(seed, n), writes(seed, n // 5)):
+    for name, inputs in itertools.chain(calls(seed, n), writes(seed, n // 5), reports(seed, n // 20)):
         numbers, buffer = answer(name, inputs)
         seen[name][numbers[0]] += 1
-        if name in ("plan", "plan_seeded", "run", "draw", "write"):
+        if name in ("plan", "plan_seeded", "run", "draw", "write", "report"):
             assert len(buffer) == len(inputs[-1]) and (numbers[0] == 0 or buffer == inputs[-1])
         if name == "draw":
             drawn_edges.add((inputs[0], inputs[1], len(inputs[2])))
@@ -1804,7 +1921,8 @@ def test_calls(seed, n):
     assert set(draw_edges()) <= drawn_edges
     assert (longest_file, longest_plan, longest_written) == (LONGEST_FILE, 256, LONGEST_FILE), (longest_file, longest_plan)
     assert list(calls(seed, 300)) == list(calls(seed, 300)) and list(writes(seed, 300)) == list(writes(seed, 300))
-    lines = [f"{n + n // 5} calls answered, each answer of each call met, a file of {longest_file} bytes and a plan of 256 steps too"]
+    assert list(reports(seed, 100)) == list(reports(seed, 100))
+    lines = [f"{n + n // 5 + n // 20} calls answered, each answer of each call met, a file of {longest_file} bytes and a plan of 256 steps too"]
     for name in CALLS:
         tally = ", ".join(f"{number}: {seen[name][number]}" for number in sorted(seen[name]))
         lines.append(f"  {name} {sum(seen[name].values())} ({tally})")
@@ -1840,6 +1958,7 @@ def self_test():
         (test_worked_cases, ()),
         (test_file_cases, ()),
         (test_worked_writes, ()),
+        (test_reports, ()),
         (test_limits, (1,)),
         (test_both_ways, (1, 5000)),
         (test_calls, (1, 20000)),

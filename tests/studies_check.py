@@ -41,6 +41,9 @@ FIRST_LINES = {
 # The studies whose plans are stored in words too.
 IN_WORDS = ["porter", "hotel", "night-porter"]
 
+# The studies of which what bin/variety prints, for 64 seeds from 1, is stored.
+VARIED = ["porter", "hotel"]
+
 HEAD = "variables\n  a: x, y\n  b: x, y, z\nactions\n"
 TAIL = "tasks\n  a x -> y\n  b x -> z\nseed 5\n"
 
@@ -164,12 +167,33 @@ def stored(name, suffix):
     return (STUDIES / (name + suffix)).read_bytes()
 
 
+def actions_in_words(name):
+    """The actions as the table has them, without conditions and situations. They are taken from its lines."""
+    part = stored(name, ".study").decode().split("\nactions\n")[1].split("\ntasks\n")[0]
+    lines = [line.split(" when ")[0].split(" during ")[0] for line in part.splitlines() if line.strip()]
+    return [" ".join(line.split()) for line in lines]
+
+
+def variety(name):
+    """What bin/variety prints of a study that has several plans, by the oracle's report."""
+    actions = [action.split(": ") for action in actions_in_words(name)]
+    (_, length, _), figures = oracle.report(stored(name, ".bin"), 1, 64, bytes(65541))
+    positions = (length - 5) // len(actions)
+    lines = [f"{name}.study, 64 seeds from 1: {figures[0]} plans of {positions} steps, {figures[4]} different"]
+    width = max(len(action) for action, _ in actions)
+    for position in range(positions):
+        row = figures[5 + len(actions) * position :][: len(actions)]
+        stood = sorted((number for number in range(len(actions)) if row[number]), key=lambda number: -row[number])
+        for number in stood:
+            place = "%4d" % position if number == stood[0] else " " * 4
+            lines.append("%s  %3d  %s  %s" % (place, row[number], actions[number][0].ljust(width), actions[number][1]))
+    return "".join(f"{line}\n" for line in lines)
+
+
 def in_words(name):
     """What bin/plan --names prints for a study that has a plan: behind each step its action as the table has it, without the
     conditions. It is taken from the table's lines and shares nothing with bin/make-study."""
-    part = stored(name, ".study").decode().split("\nactions\n")[1].split("\ntasks\n")[0]
-    lines = [line.split(" when ")[0].split(" during ")[0] for line in part.splitlines() if line.strip()]
-    actions = [" ".join(line.split()) for line in lines]
+    actions = actions_in_words(name)
     first, *steps = stored(name, ".out").decode().splitlines()
     return "".join(f"{line}\n" for line in [first] + [f"{step}  {actions[int(step.split()[1])]}" for step in steps])
 
@@ -181,6 +205,8 @@ def write_all():
         (STUDIES / f"{name}.out").write_text(oracle.printed(data))
     for name in IN_WORDS:
         (STUDIES / f"{name}.names").write_text(in_words(name))
+    for name in VARIED:
+        (STUDIES / f"{name}.variety").write_text(variety(name))
 
 
 def check_study(name, first_line):
@@ -195,11 +221,15 @@ def check_words(name):
     expect(stored(name, ".names").decode() == in_words(name), f"{name}.names is not {name}.out with the table's words")
 
 
+def check_variety(name):
+    expect(stored(name, ".variety").decode() == variety(name), f"{name}.variety is not what the oracle's report says")
+
+
 def check_folder():
     """Nothing is left over in the folder."""
     named = {name + suffix for name in FIRST_LINES for suffix in (".study", ".bin", ".out")} - {"longest.study"}
-    named |= {f"{name}.names" for name in IN_WORDS}
-    there = {path.name for path in STUDIES.iterdir() if path.suffix in (".study", ".bin", ".out", ".names")}
+    named |= {f"{name}.names" for name in IN_WORDS} | {f"{name}.variety" for name in VARIED}
+    there = {path.name for path in STUDIES.iterdir() if path.suffix in (".study", ".bin", ".out", ".names", ".variety")}
     expect(named == there, f"studies/ lacks {sorted(named - there)} or has {sorted(there - named)} too many")
 
 
@@ -354,6 +384,8 @@ def main():
         attempt(check_study, name, first_line)
     for name in IN_WORDS:
         attempt(check_words, name)
+    for name in VARIED:
+        attempt(check_variety, name)
     attempt(check_folder)
     attempt(check_particulars)
     attempt(check_night_porter)

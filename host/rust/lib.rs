@@ -56,6 +56,14 @@ mod exported {
         ) -> Answer;
         pub fn marrowkite_draw(seed: u64, count: u64, ranks: *mut u8, ranks_len: usize) -> Answer;
         pub fn marrowkite_record_at(file: *const u8, file_len: usize, at: u64) -> Record;
+        pub fn marrowkite_report(
+            file: *const u8,
+            file_len: usize,
+            first: u64,
+            n: u64,
+            report: *mut u8,
+            report_len: usize,
+        ) -> Answer;
         pub fn marrowkite_write(
             situation: u8,
             variables: *const u8,
@@ -150,6 +158,22 @@ pub fn write(
             seed,
             file.as_mut_ptr(),
             file.len(),
+        )
+    }
+}
+
+/// Reports how varied the plans of `n` seeds in a row from `first` on are: 1 to 8, then 19, 18, 13. Done: the report is
+/// `report[..first]`: how many plans, how many refusals 10, 11 and 12, how many different plans; then for each position of a
+/// plan how often each action stood there.
+pub fn report(file: &[u8], first: u64, n: u64, report: &mut [u8]) -> Answer {
+    unsafe {
+        exported::marrowkite_report(
+            file.as_ptr(),
+            file.len(),
+            first,
+            n,
+            report.as_mut_ptr(),
+            report.len(),
         )
     }
 }
@@ -255,6 +279,17 @@ mod tests {
         [
             8, situation, 1, 2, 2, 0, 0, 1, 7, 2, 2, 0, 0, 1, 7, 4, 4, 0, 0, 1, 5, 0, 0, 0, 1, 6,
         ]
+    }
+
+    #[test]
+    fn the_seeds_are_reported() {
+        let mut figures = [0xaa; 26];
+        assert_eq!(report(&PORTER, 1, 64, &mut figures), answer(0, 25, 0));
+        assert_eq!(figures[..5], [64, 0, 0, 0, 2]);
+        assert_eq!(figures[15..], [0, 0, 0, 64, 0, 0, 0, 64, 0, 0, 0xaa]);
+        assert_eq!(report(&PORTER, 1, 65, &mut figures), answer(19, 65, 0));
+        assert_eq!(report(&PORTER, 0, 64, &mut figures), answer(18, 0, 0));
+        assert_eq!(report(&PORTER, 1, 1, &mut figures[..24]), answer(13, 25, 0));
     }
 
     #[test]

@@ -1,9 +1,9 @@
-"""The library against the oracle: every number and every byte of at least 24,000 calls.
+"""The library against the oracle: every number and every byte of at least 25,000 calls.
 
     python3 tests/host/differential.py [--seed N] [--calls N] [--any-stack] COMMAND...
 
 COMMAND starts tests/host/serve.c. The calls are those of tests/oracle.py: its worked cases, then calls from a seed, which
-is drawn anew for each run (or given, also by MARROWKITE_SEED) and printed, then a fifth as many writes. A run goes on until
+is drawn anew for each run (or given, also by MARROWKITE_SEED) and printed, then a fifth as many writes and a twentieth as many reports. A run goes on until
 each answer that each call can give was met, for at most twice as many calls. Each file that loads is read by the oracle and
 written back by the library, which has to give the same bytes. Each call's stack is held to the limit that
 include/marrowkite.h names, unless any stack will do, as for the yardstick.
@@ -26,7 +26,7 @@ ROOT = Path(__file__).resolve().parents[2]
 sys.path.insert(0, str(ROOT / "tests"))
 import oracle  # noqa: E402
 
-NAMES = ["record_at", "check", "plan", "plan_seeded", "run", "draw", "write"]  # in the order of serve.c
+NAMES = ["record_at", "check", "plan", "plan_seeded", "run", "draw", "write", "report"]  # in the order of serve.c
 FILE_FAULTS = set(range(1, 9))
 CAN_ANSWER = {
     "record_at": {0, 1, 2},
@@ -36,6 +36,7 @@ CAN_ANSWER = {
     "run": {0, 13, 14, 15, 16, 17, 20} | FILE_FAULTS,
     "draw": {0, 13, 18, 19},
     "write": {0, 3, 4, 5, 6, 7, 13},
+    "report": {0, 13, 18, 19} | FILE_FAULTS,
 }
 SHOWN = 5
 
@@ -50,6 +51,8 @@ def parts(name, inputs):
         return inputs[:2], (b"", b"", b"", b""), inputs[2]
     if name == "write":
         return (inputs[5], inputs[0]), inputs[1:5], inputs[6]
+    if name == "report":
+        return inputs[1:3], (inputs[0], b"", b"", b""), inputs[3]
     *read, buffer = inputs
     return (0, 0), (*read, b"", b"", b"")[:4], buffer
 
@@ -90,13 +93,13 @@ def stack_limits():
 
 
 def all_calls(seed, n, seen):
-    """The worked cases; n calls and a fifth as many writes; as many more as it takes to meet every answer, but at most as many
+    """The worked cases; n calls, a fifth as many writes and a twentieth as many reports; as many more as it takes to meet every answer, but at most as many
     again. Each with what it has to answer; behind each call on a file that loads, the write of what the file says."""
     worked = [(name, inputs) for _, name, inputs, *_ in oracle.worked_cases()]
     worked += [("write", oracle.inputs_of_worked_write(lists, length)) for lists, length, _ in oracle.worked_writes()]
     for name, inputs in worked:
         yield name, inputs, oracle.answer(name, inputs)
-    for some, calls, names in (n, oracle.calls, NAMES[:-1]), (n // 5, oracle.writes, NAMES[-1:]):
+    for some, calls, names in (n, oracle.calls, NAMES[:-2]), (n // 5, oracle.writes, ["write"]), (n // 20, oracle.reports, ["report"]):
         for index, (name, inputs) in enumerate(calls(seed, 2 * some)):
             if index >= some and not unmet(seen, names):
                 break

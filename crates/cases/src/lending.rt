@@ -6,6 +6,7 @@
 //     draw ROOM SEED COUNT
 //     write ROOM SEED SITUATION V A C T   a file from lists, which are the file's bytes: V of variables, then A of actions,
 //                                         C of conditions, T of tasks
+//     report ROOM FIRST COUNT   on so many seeds from a first one on
 use crate::show;
 use crate::words::bytes;
 use crate::words::front;
@@ -25,6 +26,8 @@ const RUN: u64 = 0x72756e;
 const DRAW: u64 = 0x64726177;
 
 const WRITE: u64 = 0x7772697465;
+
+const REPORT: u64 = 0x7265706f7274;
 
 // Makes the call of this word, if it is one of these, and answers whether it is.
 pub(crate) fn lend(word: u64, line: &[u8], file: &[u8], buffer: &mut [u8]) -> bool {
@@ -65,6 +68,7 @@ fn call(word: u64, line: &[u8], file: &[u8], list: &[u8], room: &mut [u8]) -> bo
         RUN => show::answers(running::run(file, list, room)),
         DRAW => show::answers(draw::draw(number(line, 2), number(line, 3), room)),
         WRITE => show::answers(write(line, file, room)),
+        REPORT => show::answers(reporter::report(file, number(line, 2), number(line, 3), room)),
         _ => return false,
     }
     true

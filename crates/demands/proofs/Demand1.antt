@@ -17,6 +17,8 @@ use Rattle.runs.specs.Run.{Ran, endsIn, stops, ran, runAnswer, runLeaves, RunAl
 use Rattle.planning.specs.Planning.{PlansFile, PlanAllows}
 use Rattle.planning.specs.Seeded.{seedRanks, SeededAllows}
 use Rattle.planning.proofs.Exact.{refusal-alters-nothing}
+use Rattle.varied.specs.Report.{ReportAllows}
+use Rattle.varied.proofs.Settled.{report-unaltered}
 
 said-unaltered : (said : Said) (ranks before : List ℕ) → RefusalAltersNothing (PlansFile said ranks before) before
 said-unaltered (says t) ranks before r after p h = refusal-alters-nothing p h
@@ -50,3 +52,6 @@ pub refused-write-alters-nothing :
     (situation : ℕ) (variables actions conditions tasks : List ℕ) (seed : ℕ) (before : List ℕ)
     → RefusalAltersNothing (WriteAllows situation variables actions conditions tasks seed before) before
 refused-write-alters-nothing = write-unaltered
+
+pub refused-report-alters-nothing : (file : List ℕ) (first n : ℕ) (before : List ℕ) → RefusalAltersNothing (ReportAllows file first n before) before
+refused-report-alters-nothing = report-unaltered

@@ -6,6 +6,7 @@ ghost use Rattle.runs.specs.Run.{RunAllows};
 ghost use Rattle.planning.specs.Planning.{PlanAllows};
 ghost use Rattle.planning.specs.Seeded.{SeededAllows};
 ghost use Rattle.spelling.specs.Write.{WriteAllows};
+ghost use Rattle.varied.specs.Report.{ReportAllows};
 ghost use Rattle.marrowkite.specs.Told.{RecordAllows};
 use answer::Answer;
 use records::Found;
@@ -101,4 +102,11 @@ pub extern "C" fn marrowkite_write(
         (now (file .entry)) r (now (file .exit)) ⌝ }
 {
     writer::write(situation, variables, actions, conditions, tasks, seed, file)
+}
+
+#[no_mangle]
+pub extern "C" fn marrowkite_report(file: &[u8], first: u64, n: u64, report: &mut [u8]) -> Answer
+    ensures { λ r. ⌜ ReportAllows (now (file .entry)) first n (now (report .entry)) r (now (report .exit)) ⌝ }
+{
+    reporter::report(file, first, n, report)
 }

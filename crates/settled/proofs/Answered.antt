@@ -17,6 +17,8 @@ use Rattle.planning.specs.Seeded.{seedRanks, SeededAllows}
 use Rattle.reference.proofs.Reference.{plannedFile, planned-file-allowed}
 use Rattle.spelling.specs.Write.{WriteAllows}
 use Rattle.spelling.proofs.Settled.{write-answers}
+use Rattle.varied.specs.Report.{ReportAllows}
+use Rattle.varied.proofs.Settled.{report-answers}
 use Rattle.marrowkite.specs.Told.{told, RecordAllows}
 
 -- what is given by equations is allowed
@@ -48,3 +50,6 @@ pub write-answered :
     (situation : ℕ) (variables actions conditions tasks : List ℕ) (seed : ℕ) (before : List ℕ)
     → Answers (WriteAllows situation variables actions conditions tasks seed before)
 write-answered = write-answers
+
+pub report-answered : (file : List ℕ) (first n : ℕ) (before : List ℕ) → Answers (ReportAllows file first n before)
+report-answered = report-answers

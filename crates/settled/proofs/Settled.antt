@@ -15,6 +15,8 @@ use Rattle.planning.specs.Seeded.{seedRanks, SeededAllows}
 use Rattle.planning.proofs.Determined.{file-plans-determined}
 use Rattle.spelling.specs.Write.{WriteAllows}
 use Rattle.spelling.proofs.Settled.{write-settles}
+use Rattle.varied.specs.Report.{ReportAllows}
+use Rattle.varied.proofs.Settled.{report-settles}
 use Rattle.marrowkite.specs.Told.{RecordAllows}
 
 -- what is given by equations is settled
@@ -44,3 +46,6 @@ pub write-settled :
     (situation : ℕ) (variables actions conditions tasks : List ℕ) (seed : ℕ) (before : List ℕ)
     → Settles (WriteAllows situation variables actions conditions tasks seed before)
 write-settled = write-settles
+
+pub report-settled : (file : List ℕ) (first n : ℕ) (before : List ℕ) → Settles (ReportAllows file first n before)
+report-settled = report-settles

@@ -18,21 +18,20 @@ use Rattle.stages.specs.Whole.{Known}
 pub drawn-fine : (seed a : ℕ) → tested (drawn seed a) a ≡ Fine
 drawn-fine seed a = rank-list-is-fine (drawn-is-rank-list seed a)
 
+-- a seed in range leaves its list in the front of the ranks
+pub drawn-stands :
+    (seed a : ℕ) → 1 ≤ seed → seed ≤ 2147483646 → a ≤ 256 → (ranks : List ℕ) → ranks ≡ drawLeaves seed a (replicate 256 0)
+    → take a ranks ≡ drawn seed a
+drawn-stands seed a low high few ranks e =
+    front ∙ take-at (drawn seed a) (drop a (replicate 256 0)) a (drawn-is-rank-list seed a .an-entry-for-each)
+  where
+    front : take a ranks ≡ take a (drawn seed a ++ drop a (replicate 256 0))
+    front = rw (e, not-refused seed a 256 low high few few)
+
 module _
     {file : List ℕ} {n a x : ℕ} {acts : ActionTables} {starts goals : List ℕ} {t : Study}
     (known : Known file n a x acts starts goals t)
   where
     pub drawn-in-front : (ranks : List ℕ) → ranks ≡ drawLeaves x a (replicate 256 0) → take a ranks ≡ drawn x a
-    drawn-in-front ranks e =
-        e-front ∙ take-at (drawn x a) (drop a (replicate 256 0)) a (drawn-is-rank-list x a .an-entry-for-each)
-      where
-        few : a ≤ 256
-        few = known .actions .few
-
-        e-front : take a ranks ≡ take a (drawn x a ++ drop a (replicate 256 0))
-        e-front =
-            rw (
-              e,
-              not-refused x a 256
-                  (omega (arith, known .seed, known .lawful .seed-low)) (omega (arith, known .seed, known .lawful .seed-high)) few few,
-            )
+    drawn-in-front =
+        drawn-stands x a (omega (arith, known .seed, known .lawful .seed-low)) (omega (arith, known .seed, known .lawful .seed-high)) (known .actions .few)

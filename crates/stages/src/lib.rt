@@ -28,6 +28,7 @@ fn plan_many(
 ) -> Answer
     requires { ⌜ (length (now room) ≡ 512)
         × ((t : Study) × WalkingIn (now file) (now ranks) n total (now acts) (now vars) (now room) (now steps) t) ⌝ }
+    ensures { λ _. ⌜ length (now (room .exit)) ≡ 512 ⌝ }
     ensures { λ r. ⌜ ((t : Study)
         → WalkingIn (now (file .entry)) (now (ranks .entry)) n total (now (acts .entry)) (now (vars .entry)) (now (room .entry)) (now (steps .entry)) t
         → Plans t (now (ranks .entry)) (now (plan .entry)) r (now (plan .exit))) ⌝ }
@@ -67,6 +68,7 @@ fn plan_few(
 ) -> Answer
     requires { ⌜ (length (now room) ≡ 512) × (length (now ranks) ≤ 64)
         × ((t : Study) × (n : ℕ) × WalkingIn (now file) (now ranks) n total (now acts) (now vars) (now room) (now steps) t) ⌝ }
+    ensures { λ _. ⌜ length (now (room .exit)) ≡ 512 ⌝ }
     ensures { λ r. ⌜ ((t : Study) (n : ℕ)
         → WalkingIn (now (file .entry)) (now (ranks .entry)) n total (now (acts .entry)) (now (vars .entry)) (now (room .entry)) (now (steps .entry)) t
         → Plans t (now (ranks .entry)) (now (plan .entry)) r (now (plan .exit))) ⌝ }
@@ -88,6 +90,31 @@ fn plan_few(
     ranking::name_all(ranks, room);
     let taken = hanging::take(members, total, &mut words, room);
     handing::finish(taken, total, room, plan)
+}
+
+// Every variable has a walk: the plan, by one of the two ways.
+pub fn plan_walked(
+    file: &[u8],
+    ranks: &[u8],
+    n: usize,
+    total: usize,
+    acts: &[[u8; 6]; 256],
+    vars: &[[u8; 3]; 32],
+    steps: &[u16; 512],
+    room: &mut [u8; 512],
+    plan: &mut [u8],
+) -> Answer
+    requires { ⌜ (length (now room) ≡ 512)
+        × ((t : Study) × WalkingIn (now file) (now ranks) n total (now acts) (now vars) (now room) (now steps) t) ⌝ }
+    ensures { λ _. ⌜ length (now (room .exit)) ≡ 512 ⌝ }
+    ensures { λ r. ⌜ ((t : Study)
+        → WalkingIn (now (file .entry)) (now (ranks .entry)) n total (now (acts .entry)) (now (vars .entry)) (now (room .entry)) (now (steps .entry)) t
+        → Plans t (now (ranks .entry)) (now (plan .entry)) r (now (plan .exit))) ⌝ }
+{
+    if FEW < ranks.len() {
+        return plan_many(file, ranks, n, total, acts, vars, steps, room, plan);
+    }
+    plan_few(file, ranks, total, acts, vars, steps, room, plan)
 }
 
 // What was loaded, with a rank list of it. The table of setters is used up: its room takes the actions by rank, and those
@@ -113,10 +140,7 @@ pub fn plan_loaded(
     let Walked::All(total) = walked else {
         return handing::unwalked(walked);
     };
-    if FEW < actions {
-        return plan_many(file, ranks, n, total, acts, vars, &steps, setters, plan);
-    }
-    plan_few(file, ranks, total, acts, vars, &steps, setters, plan)
+    plan_walked(file, ranks, n, total, acts, vars, &steps, setters, plan)
 }
 
 // The same with the list that the seed draws.

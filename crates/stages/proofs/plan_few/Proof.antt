@@ -25,10 +25,14 @@ unordered-requires : tie.Need-unordered-requires
 unordered-requires c κs = search needs
 
 returns : tie.Need-returns
-returns c t n walking =
+returns c =
     let e = c .before .enum-told .given .1 in
-    let off = rw e at (c .before .before .before .order-all .ensures .1 t (walking-orderable walking) (ranks-apart walking) (all-zeros 128)) in
-    rw (c .unordered .ensures ∙ ap notOrdered e) (walking-off walking off)
+    let o = c .before .before .before in (
+      o .before .before .before .before .before .before .pre .0,
+      λ t n walking.
+          let off = rw e at (o .order-all .ensures .1 t (walking-orderable walking) (ranks-apart walking) (all-zeros 128)) in
+          rw (c .unordered .ensures ∙ ap notOrdered e) (walking-off walking off),
+    )
 
 name-all-requires : tie.Need-name-all-requires
 name-all-requires c κs = search needs
@@ -61,16 +65,19 @@ same-length : tie.Need-same-length
 same-length c = search needs
 
 returns-2 : tie.Need-returns-2
-returns-2 c t n walking =
+returns-2 c =
     let g = c .before .before in
     let k = g .before .before .before in
     let m = k .before .before .before in
     let f = m .before .before .before in
     let o = f .before .before in
-    let few = o .before .before .before .before .before .before .pre .1 in
-    let ordered = rw (f .found .given .1) at (o .order-all .ensures .1 t (walking-orderable walking) (ranks-apart walking) (all-zeros 128)) in
-    g .finish .ensures t _
-    (walking-taken walking (ordered .0) _ _ (taken-greedily walking few (ordered .1) (m .name-all .ensures .1 (ranks-apart walking)) (k .take .ensures .1)))
+    let few = o .before .before .before .before .before .before .pre .1 in (
+      k .take .ensures .0 .1,
+      λ t n walking.
+          let ordered = rw (f .found .given .1) at (o .order-all .ensures .1 t (walking-orderable walking) (ranks-apart walking) (all-zeros 128)) in
+          g .finish .ensures t _
+          (walking-taken walking (ordered .0) _ _ (taken-greedily walking few (ordered .1) (m .name-all .ensures .1 (ranks-apart walking)) (k .take .ensures .1))),
+    )
 
 pub plan-few-spec : {M : Type 1} → statement M
 plan-few-spec =

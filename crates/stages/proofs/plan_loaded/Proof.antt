@@ -1,10 +1,9 @@
--- `stages::plan_loaded` meets its contract: a variable with no walk is refusal 10, else planning goes on by how many actions there are.
+-- `stages::plan_loaded` meets its contract: a variable with no walk is refusal 10, else planning goes on with the walks.
 -- Assumes nothing.
 use mathlib.Core.Path.{refl, ap, _∙_}
-use native.Mathlib.Omega.{arith}
 use Rattle.planning.specs.Planning.{no-walk}
 use Rattle.handing.specs.Answers.{notWalked}
-use Rattle.stages.proofs.Stages.{given-moves, given-starts, given-goals, given-ranked, given-traced, given-walking, as-many-ranks}
+use Rattle.stages.proofs.Stages.{given-moves, given-starts, given-goals, given-ranked, given-traced, given-walking}
 use borrow.Author.Needs.{needs}
 use Rattle.stages.proofs.plan_loaded.Statement.{statement}
 use Rattle.stages.proofs.plan_loaded.Tie as tie
@@ -29,9 +28,9 @@ returns c t given =
     rw (c .unwalked .ensures ∙ ap notWalked e)
     (no-walk (given-ranked given) (rw e at (given-traced given (c .before .before .before .walk-all .ensures .1 t))))
 
-plan-many-requires : tie.Need-plan-many-requires
-plan-many-requires c κs =
-    let w = c .before .before .before .before .before in
+plan-walked-requires : tie.Need-plan-walked-requires
+plan-walked-requires c κs =
+    let w = c .before .before .before .before in
     let a = w .before .before in
     let s = a .before .before .before .before .before .before in
     let (t, given) = s .pre .1 in
@@ -44,28 +43,9 @@ same-length c = search needs
 returns-2 : tie.Need-returns-2
 returns-2 c t given =
     let p = c .before .before in
-    let w = p .before .before .before .before .before .before in
+    let w = p .before .before .before .before .before in
     let (rowed, (list, (members, counted))) = rw (w .walked .given .1) at (given-traced given (w .before .before .walk-all .ensures .1 t)) in
-    p .plan-many .ensures t (given-walking given _ _ rowed list members counted)
-
-plan-few-requires : tie.Need-plan-few-requires
-plan-few-requires c κs =
-    let w = c .before .before .before .before .before in
-    let a = w .before .before in
-    let s = a .before .before .before .before .before .before in
-    let (t, given) = s .pre .1 in
-    let (rowed, (list, (members, counted))) = rw (w .walked .given .1) at (given-traced given (a .walk-all .ensures .1 t)) in
-    (s .pre .0, omega (arith, as-many-ranks given), (t, _, given-walking given _ _ rowed list members counted))
-
-same-length-2 : tie.Need-same-length-2
-same-length-2 c = search needs
-
-returns-3 : tie.Need-returns-3
-returns-3 c t given =
-    let p = c .before .before in
-    let w = p .before .before .before .before .before .before in
-    let (rowed, (list, (members, counted))) = rw (w .walked .given .1) at (given-traced given (w .before .before .walk-all .ensures .1 t)) in
-    p .plan-few .ensures t _ (given-walking given _ _ rowed list members counted)
+    p .plan-walked .ensures .1 t (given-walking given _ _ rowed list members counted)
 
 pub plan-loaded-spec : {M : Type 1} → statement M
 plan-loaded-spec =
@@ -76,9 +56,6 @@ plan-loaded-spec =
     enum-told
     unwalked-requires
     returns
-    plan-many-requires
+    plan-walked-requires
     same-length
-    returns-2
-    plan-few-requires
-    same-length-2
-    returns-3)
+    returns-2)

@@ -22,10 +22,14 @@ unmet-requires : tie.Need-unmet-requires
 unmet-requires c κs = search needs
 
 returns : tie.Need-returns
-returns c t walking =
+returns c =
     let e = c .before .enum-told2 .given .1 in
-    let off = rw e at (c .before .before .before .want-all .ensures .1 t (walking-wishes walking) (walking-rowed walking)) in
-    rw (c .unmet .ensures ∙ ap notMet e) (walking-off walking off)
+    let w = c .before .before .before in (
+      w .before .before .before .before .before .pre .0,
+      λ t walking.
+          let off = rw e at (w .want-all .ensures .1 t (walking-wishes walking) (walking-rowed walking)) in
+          rw (c .unmet .ensures ∙ ap notMet e) (walking-off walking off),
+    )
 
 set-out-requires : tie.Need-set-out-requires
 set-out-requires c κs = search needs
@@ -58,15 +62,18 @@ same-length : tie.Need-same-length
 same-length c = search needs
 
 returns-2 : tie.Need-returns-2
-returns-2 c t walking =
+returns-2 c =
     let g = c .before .before in
     let k = g .before .before .before in
     let o = k .before .before .before .before .before .before in
     let e = o .before .before in
-    let w = e .before .before in
-    let (met, counts) = rw (e .enum-told .given .1) at (w .want-all .ensures .1 t (walking-wishes walking) (walking-rowed walking)) in
-    g .finish .ensures t _
-    (walking-taken walking met _ _ (k .take-all .ensures .1 t (walking-prepared walking _ _ met counts (o .set-out .ensures))))
+    let w = e .before .before in (
+      k .take-all .ensures .0 .1,
+      λ t walking.
+          let (met, counts) = rw (e .enum-told .given .1) at (w .want-all .ensures .1 t (walking-wishes walking) (walking-rowed walking)) in
+          g .finish .ensures t _
+          (walking-taken walking met _ _ (k .take-all .ensures .1 t (walking-prepared walking _ _ met counts (o .set-out .ensures)))),
+    )
 
 pub plan-many-spec : {M : Type 1} → statement M
 plan-many-spec =

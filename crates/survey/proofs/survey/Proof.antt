@@ -1,0 +1,57 @@
+-- `survey::survey` meets its contract: the file lies behind the head, within the input.
+-- Assumes nothing.
+use Rattle.survey.proofs.Handed.{handed}
+use borrow.Author.Needs.{needs}
+use Rattle.survey.proofs.survey.Statement.{statement}
+use Rattle.survey.proofs.survey.Tie as tie
+
+file-end-requires : tie.Need-file-end-requires
+file-end-requires c κs = search needs
+
+sub-report : tie.Need-sub-report
+sub-report c = search needs
+
+part-report-start : tie.Need-part-report-start
+part-report-start c = search needs
+
+part-report-end : tie.Need-part-report-end
+part-report-end c = search needs
+
+number-at-requires : tie.Need-number-at-requires
+number-at-requires c κs = search needs
+
+number-at-requires-2 : tie.Need-number-at-requires-2
+number-at-requires-2 c κs = search needs
+
+report-requires : tie.Need-report-requires
+report-requires c κs = search needs
+
+same-length : tie.Need-same-length
+same-length c = search needs
+
+returns : tie.Need-returns
+returns c =
+    let w = c .before .before in
+    let second = w .before .before in
+    let first = second .before in
+    let end = first .before .before in
+    let start = end .before .before .before in
+    handed (start .args .input .now) _ _ (w .report .result) _ (end .file-end .result) (first .number-at .result) (second .number-at2 .result)
+    (end .file-end .ensures .2)
+    (first .number-at .ensures)
+    (second .number-at2 .ensures)
+    (w .report .ensures)
+
+pub survey-spec : {M : Type 1} → statement M
+survey-spec =
+    tie.close
+    (tie.spec
+    file-end-requires
+    sub-report
+    part-report-start
+    part-report-end
+    number-at-requires
+    number-at-requires-2
+    report-requires
+    same-length
+    returns)

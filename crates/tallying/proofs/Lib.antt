@@ -1,0 +1,5 @@
+pub mod Places
+pub mod Keeping
+pub mod Differing
+pub mod Counting
+pub mod Filling

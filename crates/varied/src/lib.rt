@@ -1,0 +1,1 @@
+// How varied the plans of so many seeds are: the figures, by counting; plain mathematics, no code.

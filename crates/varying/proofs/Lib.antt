@@ -1,0 +1,3 @@
+pub mod Refilled
+pub mod Alike
+pub mod Writing

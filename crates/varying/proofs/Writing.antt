@@ -1,0 +1,153 @@
+-- The report written: where all seeds are refused, and where all give plans.
+-- Assumes nothing.
+use mathlib.Core.Path.{_≡_, refl, sym, ap, _∙_, subst}
+use mathlib.Core.List.{List, [], _∷_, _++_}
+use Prim.Native.Nat.{ℕ, _+_, _*_, _≤_, _<_}
+use native.Mathlib.Omega.{arith}
+use lib.Dec.{eqb}
+use lib.ListN.{length, take, drop, set, length-replicate, replicate}
+use lib.Seq.{drop-drop}
+use borrow.Author.Tests.{le-leb, lt-leb}
+use Rattle.plain.specs.Choose.{pick}
+use Rattle.answer.specs.Answers.{done, refusal}
+use Rattle.answer.specs.declared.Answer.{Answer}
+use Rattle.study.specs.Study.{Study}
+use Rattle.lawful.specs.Lawful.{Lawful}
+use Rattle.varied.specs.Outcomes.{Outcome, planned, barred, ComesTo, Come}
+use Rattle.varied.specs.Figures.{plansAmong, different, rows, reportOf}
+use Rattle.varied.specs.Report.{WritesReport, Reports}
+use Rattle.varied.proofs.Alike.{AllPlans, plan-then-plans, barred-comes}
+use Rattle.varied.proofs.Settled.{come-to-some}
+use Rattle.varied.proofs.Told.{barred-report, plans-report, plans-report-length}
+use Rattle.varying.specs.Seeds.{KeptAll, Reported}
+
+-- five stored
+pub five-stored :
+    (a b c d e : ℕ) (l : List ℕ) → 5 ≤ length l → set (set (set (set (set l 0 a) 1 b) 2 c) 3 d) 4 e ≡ a ∷ b ∷ c ∷ d ∷ e ∷ drop 5 l
+five-stored a b c d e [] h = absurd (omega arith)
+five-stored a b c d e (x0 ∷ []) h = absurd (omega arith)
+five-stored a b c d e (x0 ∷ x1 ∷ []) h = absurd (omega arith)
+five-stored a b c d e (x0 ∷ x1 ∷ x2 ∷ []) h = absurd (omega arith)
+five-stored a b c d e (x0 ∷ x1 ∷ x2 ∷ x3 ∷ []) h = absurd (omega arith)
+five-stored a b c d e (x0 ∷ x1 ∷ x2 ∷ x3 ∷ x4 ∷ rest) h = refl
+
+-- ---- the two answers
+
+module _ (report before : List ℕ) {r : Answer} {after : List ℕ} where
+  pub writes-all : length report ≤ length before → r ≡ done (length report) 0 → after ≡ report ++ drop (length report) before → WritesReport report before r after
+  writes-all room answered written = rw (le-leb (length report) (length before) room) (answered, written)
+
+  pub writes-none : length before < length report → r ≡ refusal 13 (length report) → after ≡ before → WritesReport report before r after
+  writes-none short answered same = rw (lt-leb (length report) (length before) short) (answered, same)
+
+-- ---- all are refused
+
+abbrev pub refusedReport : ℕ → ℕ → List ℕ
+refusedReport number n = 0 ∷ pick (eqb number 10) n 0 ∷ pick (eqb number 11) n 0 ∷ pick (eqb number 12) n 0 ∷ 0 ∷ []
+
+pub barred-reports :
+    {t : Study} {first n : ℕ} {a : Answer} {before after : List ℕ} {r : Answer} → Lawful t → ComesTo t first (barred a)
+    → WritesReport (refusedReport (a .number) n) before r after → Reports t first n before r after
+barred-reports {t} {first} {n} {a} lawful comes written = record {
+  outcomes = replicate n (barred a);
+  each = length-replicate n (barred a);
+  come = barred-comes lawful comes first n;
+  written = rw (barred-report (length (t .actions)) n a) written;
+}
+
+-- ---- all give plans
+
+-- five figures are in front, and what is behind them stays
+behind-five : (m x0 x1 x2 x3 x4 : ℕ) (l : List ℕ) → drop (5 + m) (x0 ∷ x1 ∷ x2 ∷ x3 ∷ x4 ∷ drop 5 l) ≡ drop (5 + m) l
+behind-five m x0 x1 x2 x3 x4 l = sym (drop-drop m 5 (x0 ∷ x1 ∷ x2 ∷ x3 ∷ x4 ∷ drop 5 l)) ∙ drop-drop m 5 l
+
+module _ {t : Study} {a first seeds len : ℕ} {before after : List ℕ} (is-a : a ≡ length (t .actions)) (some : 1 ≤ seeds) where
+  -- .. the rows between are the report's
+  figures-and-rows :
+      {base stride d : ℕ} {region headed : List ℕ} (old : List ℕ) → (all : KeptAll t first seeds len base stride region)
+      → d ≡ different (plansAmong (all .outcomes))
+      → headed ≡ seeds ∷ 0 ∷ 0 ∷ 0 ∷ d ∷ drop 5 old
+      → drop (5 + a * len) old ≡ drop (5 + a * len) before
+      → after ≡ take 5 headed ++ (rows (plansAmong (all .outcomes)) a 0 len ++ drop (5 + a * len) headed)
+      → Reported t first seeds len before after
+  figures-and-rows {d = d} {headed = headed} old all is-d heads same filled = record {
+    outcomes = all .outcomes;
+    each = all .each;
+    come = all .come;
+    plans = all .plans;
+    whole =
+        rw (← is-a)
+        (rw (plans-report-length a len seeds (all .outcomes) (all .plans) (all .each) some)
+        (rw (plans-report a len seeds (all .outcomes) (all .plans) (all .each) some) exactly));
+  }
+    where
+      plans : List (List ℕ)
+      plans = plansAmong (all .outcomes)
+
+      front : take 5 headed ≡ seeds ∷ 0 ∷ 0 ∷ 0 ∷ different plans ∷ []
+      front = rw (heads, is-d)
+
+      behind : drop (5 + a * len) headed ≡ drop (5 + a * len) before
+      behind = ap (drop (5 + a * len)) heads ∙ behind-five (a * len) seeds 0 0 0 d old ∙ same
+
+      exactly : after ≡ (seeds ∷ 0 ∷ 0 ∷ 0 ∷ different plans ∷ rows plans a 0 len) ++ drop (5 + a * len) before
+      exactly = filled ∙ rw (front, behind)
+
+  -- .. where the plans were kept apart, or in the rows
+  pub figures-apart :
+      {base stride d : ℕ} {region headed : List ℕ} → (all : KeptAll t first seeds len base stride region)
+      → d ≡ different (plansAmong (all .outcomes))
+      → headed ≡ seeds ∷ 0 ∷ 0 ∷ 0 ∷ d ∷ drop 5 before
+      → after ≡ take 5 headed ++ (rows (plansAmong (all .outcomes)) a 0 len ++ drop (5 + a * len) headed)
+      → Reported t first seeds len before after
+  figures-apart all is-d heads filled = figures-and-rows before all is-d heads refl filled
+
+  pub figures-in-place :
+      {base stride d : ℕ} {region headed : List ℕ} → (all : KeptAll t first seeds len base stride region)
+      → d ≡ different (plansAmong (all .outcomes))
+      → headed ≡ seeds ∷ 0 ∷ 0 ∷ 0 ∷ d ∷ drop 5 region
+      → drop (5 + a * len) region ≡ drop (5 + a * len) before
+      → after ≡ take 5 headed ++ (rows (plansAmong (all .outcomes)) a 0 len ++ drop (5 + a * len) headed)
+      → Reported t first seeds len before after
+  figures-in-place {region = region} = figures-and-rows region
+
+  module _ {r : Answer} where
+    -- .. and with the answer
+    pub reports-plans : 5 + a * len ≤ length before → Reported t first seeds len before after → r ≡ done (5 + a * len) 0 → Reports t first seeds before r after
+    reports-plans room reported answered = record {
+      outcomes = reported .outcomes;
+      each = reported .each;
+      come = reported .come;
+      written = writes-all (reportOf (length (t .actions)) (reported .outcomes)) before (rw is-long room) (rw is-long answered) (reported .whole);
+    }
+      where
+        is-long : length (reportOf (length (t .actions)) (reported .outcomes)) ≡ 5 + a * len
+        is-long = rw (← is-a) (plans-report-length a len seeds (reported .outcomes) (reported .plans) (reported .each) some)
+
+    -- no room, whatever the other seeds' plans are
+    pub reports-no-room :
+        Lawful t → {plan : List ℕ} → ComesTo t first (planned plan) → length plan ≡ len → length before < 5 + a * len → r ≡ refusal 13 (5 + a * len)
+        → after ≡ before → Reports t first seeds before r after
+    reports-no-room lawful comes is-len short answered same = record {
+      outcomes = outcomes;
+      each = each;
+      come = come;
+      written = writes-none (reportOf (length (t .actions)) outcomes) before (rw is-long short) (rw is-long answered) same;
+    }
+      where
+        some-come : (outcomes : List Outcome) × ((length outcomes ≡ seeds) × Come t first outcomes)
+        some-come = come-to-some lawful first seeds
+
+        outcomes : List Outcome
+        outcomes = some-come .0
+
+        each : length outcomes ≡ seeds
+        each = some-come .1 .0
+
+        come : Come t first outcomes
+        come = some-come .1 .1
+
+        is-long : length (reportOf (length (t .actions)) outcomes) ≡ 5 + a * len
+        is-long =
+            rw (← is-a)
+            (plans-report-length a len seeds outcomes (subst (λ (n : ℕ). AllPlans n outcomes) is-len (plan-then-plans lawful comes first outcomes come)) each some)

@@ -1,0 +1,80 @@
+-- `varying::report_loaded` meets its contract: a variable with no walk bars every seed, else the walks are entered once for all.
+-- Assumes nothing.
+use mathlib.Core.Path.{refl}
+use borrow.Author.Needs.{needs}
+use Rattle.draw.specs.Draw.{drawn}
+use Rattle.stages.proofs.Drawing.{drawn-fine}
+use Rattle.stages.proofs.Stages.{known-given, given-moves, given-starts, given-goals, given-traced}
+use Rattle.varying.proofs.Refilled.{known-entered}
+use Rattle.varying.proofs.Alike.{without-comes}
+use Rattle.varying.proofs.report_loaded.Statement.{statement}
+use Rattle.varying.proofs.report_loaded.Tie as tie
+
+walk-all-requires : tie.Need-walk-all-requires
+walk-all-requires c κs =
+    let s = c .before .before .before .before in
+    let (t, x, known) = s .pre .5 in
+    let given = known-given (drawn 1 (s .args .actions)) known (drawn-fine 1 (s .args .actions)) in
+    (refl, (t, given-moves given, given .variables, given-starts given, given-goals given))
+
+enum-known-walked : tie.Need-enum-known-walked
+enum-known-walked c = search needs
+
+enum-told : tie.Need-enum-told
+enum-told c = search needs
+
+all-refused-requires : tie.Need-all-refused-requires
+all-refused-requires c κs = search needs
+
+same-length : tie.Need-same-length
+same-length c = search needs
+
+returns : tie.Need-returns
+returns c t x known =
+    let a = c .before .before in
+    let d = a .before .before in
+    let w = d .before .before in
+    let s = w .before .before .before .before .before in
+    let given = known-given (drawn 1 (s .args .actions)) known (drawn-fine 1 (s .args .actions)) in
+    let lowest = rw (d .enum-told .given .1) at (given-traced given (w .walk-all .ensures .1 t)) in
+    a .all-refused .ensures t (s .args .first) _ (known .lawful) (without-comes (known .lawful) (s .args .first) lowest) refl
+
+report-walked-requires : tie.Need-report-walked-requires
+report-walked-requires c κs =
+    let d = c .before .before .before .before in
+    let w = d .before .before in
+    let s = w .before .before .before .before .before in
+    let (t, x, known) = s .pre .5 in
+    let given = known-given (drawn 1 (s .args .actions)) known (drawn-fine 1 (s .args .actions)) in
+    let (rowed, (list, (members, counted))) = rw (d .walked .given .1) at (given-traced given (w .walk-all .ensures .1 t)) in (
+      s .pre .0,
+      record { low = s .pre .1; high = s .pre .4; some = s .pre .2; few = s .pre .3 },
+      (t, known-entered _ known _ rowed list members counted),
+    )
+
+same-length-2 : tie.Need-same-length-2
+same-length-2 c = search needs
+
+returns-2 : tie.Need-returns-2
+returns-2 c t x known =
+    let p = c .before .before in
+    let d = p .before .before .before .before .before in
+    let w = d .before .before in
+    let s = w .before .before .before .before .before in
+    let given = known-given (drawn 1 (s .args .actions)) known (drawn-fine 1 (s .args .actions)) in
+    let (rowed, (list, (members, counted))) = rw (d .walked .given .1) at (given-traced given (w .walk-all .ensures .1 t)) in
+    p .report-walked .ensures t (known-entered _ known _ rowed list members counted)
+
+pub report-loaded-spec : {M : Type 1} → statement M
+report-loaded-spec =
+    tie.close
+    (tie.spec
+    walk-all-requires
+    enum-known-walked
+    enum-told
+    all-refused-requires
+    same-length
+    returns
+    report-walked-requires
+    same-length-2
+    returns-2)
