@@ -8,7 +8,7 @@ void *memset(void *to, int byte, size_t len);
 int memcmp(const void *one, const void *other, size_t len);
 
 enum { VARIABLE = 1, ACTION, CONDITION, TASK, SEED, END, SITUATIONS, SITUATION };
-enum { MOST_VARIABLES = 32, MOST_ACTIONS = 256, LARGEST_SEED = 2147483646, ALWAYS = 255 };
+enum { MOST_VARIABLES = 32, MOST_ACTIONS = 256, LARGEST_SEED = 2147483646, ALWAYS = 255, CAME_ROUND = 255 };
 
 typedef marrowkite_answer answer;
 
@@ -150,16 +150,16 @@ static const answer fine = {0, 0, 0};
 /* A part of one function: compiled into it, so that cutting it up costs nothing. */
 #define PART static inline __attribute__((always_inline))
 
-/* Traces the walks back from the goals: the number of their actions, or refusal 10. */
+/* Traces the walks back from the goals: the number of their actions, or refusal 10 with where it breaks. */
 PART answer trace_walks(planner *p, const study *s, unsigned n, uint64_t walk[4]) {
   unsigned total = 0;
   for (unsigned v = 0; v < n; v++) {
     unsigned q = s->goals[v], on = 1u << q;
     for (; q != s->starts[v]; total++) {
-      if (!(s->set[v] >> q & 1)) return refused(10, v);
+      if (!(s->set[v] >> q & 1)) return three(10, v, q);
       unsigned i = s->setter[16 * v + q];
       q = s->pre[i];
-      if (on >> q & 1) return refused(10, v);
+      if (on >> q & 1) return three(10, v, CAME_ROUND);
       on |= 1u << q;
       p->leaves[16 * v + q] = (uint8_t)i;
       walk[i >> 6] |= 1ull << (i & 63);
@@ -226,7 +226,7 @@ enum { FEW = 64, SETS = 1 << 6, LEAVES = 1 << 13, ON_WALK = 1 << 14 };
 
 PART uint64_t only(unsigned rank) { return 1ull << rank; }
 
-/* Traces the walks back from the goals: the number of their actions, or refusal 10. */
+/* Traces the walks back from the goals: the number of their actions, or refusal 10 with where it breaks. */
 PART answer trace_ranked(ranked *p, const study *s, const uint8_t *ranks) {
   unsigned total = 0, n = s->variables;
   memset(p->met, 0, 32 * n);
@@ -235,7 +235,7 @@ PART answer trace_ranked(ranked *p, const study *s, const uint8_t *ranks) {
     uint16_t *met = p->met + 16 * v;
     unsigned q = s->goals[v], here = ON_WALK, after = 0;
     for (; q != s->starts[v]; total++) {
-      if (!(s->set[v] >> q & 1)) return refused(10, v);
+      if (!(s->set[v] >> q & 1)) return three(10, v, q);
       unsigned i = s->setter[16 * v + q], r = ranks[i];
       met[q] = (uint16_t)(here | SETS | r);
       p->before[r] = p->hung[r] = 0;
@@ -244,7 +244,7 @@ PART answer trace_ranked(ranked *p, const study *s, const uint8_t *ranks) {
       p->walk |= only(i);
       p->left |= only(r);
       q = s->pre[i];
-      if (met[q]) return refused(10, v);
+      if (met[q]) return three(10, v, CAME_ROUND);
       here = ON_WALK | LEAVES | r << 7;
       after = r;
     }

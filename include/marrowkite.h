@@ -29,7 +29,9 @@
  *       an entry is no action's number, or repeats an earlier     first: the first such index; second: 0
  *
  *       there is no straight plan
- *   10  some variable has no walk                                 first: the lowest such variable
+ *   10  some variable has no walk                                 first: the lowest such variable; second: the value,
+ *                                                                 traced back from its goal, that no action in force
+ *                                                                 sets, or 255 where the trace comes round
  *   11  an action on a walk has a condition whose value is not
  *       on that variable's walk                                   first: the lowest such action;
  *                                                                 second: its lowest such variable

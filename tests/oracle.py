@@ -19,7 +19,8 @@ record_at and check write nothing; their buffer afterwards is b"". `printed(inpu
 `calls(seed, n)` yields n calls as (name, inputs), all but writes and reports, `writes(seed, n)` n writes and `reports(seed, n)` n
 reports; `answer(name, inputs)` is what such a call answers.
 
-    python3 tests/oracle.py --self-test      document 01's worked cases; both ways of planning on random small files
+    python3 tests/oracle.py --self-test      document 01's worked cases; both ways of planning on random small files; where
+                                             walks break, by following the trace
 """
 
 import itertools
@@ -39,6 +40,7 @@ MOST_SEEDS = 64
 LONGEST_FILE = 25544
 MOST_SITUATION = 7
 ALWAYS = 255  # the set of all eight situations, which is not written
+CAME_ROUND = 255  # the second number of 10 where the trace comes round
 
 # Planning tries every list if there are no more lists than this; the self-test tries many more.
 LISTS_TO_TRY = 300
@@ -330,6 +332,18 @@ def walk_of(study, variable):
     return walk
 
 
+def where_it_breaks(study, variable):
+    """Of a variable with no walk: the value that no action sets, of all that lead to the goal; if each of them is set, the trace
+    comes round. One that is not set lies at the trace's end, so there are never two."""
+    moves = [action for action in study.actions if in_force(study, action) and action.variable == variable]
+    back = {study.goal(variable)}
+    while more := {action.pre for action in moves if action.post in back} - back:
+        back |= more
+    unset = back - {action.post for action in moves}
+    assert study.start(variable) not in back and len(unset) < 2, (study, variable)
+    return unset.pop() if unset else CAME_ROUND
+
+
 def values_on_walk(study, walks, variable):
     return {study.start(variable)} | {study.actions[number].post for number in walks[variable]}
 
@@ -408,7 +422,8 @@ def planned_by_walks(study, ranks):
     """The plan by walks and 'comes before'; raises Refused with 10, 11 or 12."""
     walks = [walk_of(study, v) for v in range(len(study.counts))]
     if None in walks:
-        raise Refused(10, walks.index(None))
+        lowest = walks.index(None)
+        raise Refused(10, lowest, where_it_breaks(study, lowest))
     off = off_walk_condition(study, walks)
     if off:
         raise Refused(11, *off)
@@ -1509,7 +1524,7 @@ def coming_round():
 
 
 def worked_cases():
-    """Document 01's worked cases: (case, name, inputs, numbers, first bytes of the buffer). The buffers hold 170s."""
+    """Document 01's worked cases, 9 and 14 as document 02 has them: (case, name, inputs, numbers, first bytes of the buffer). The buffers hold 170s."""
     room = b"\xaa" * 8
     rising = bytes(range(5))
     bytes_of = lambda *entries: bytes(entries)
@@ -1536,7 +1551,7 @@ def worked_cases():
     yield 13, "plan", (two_wanting(0), bytes_of(0, 1), room), (12, 0, 0), b""
     yield 13, "plan", (two_wanting(1, more=True), bytes_of(0, 1, 2), room), (12, 1, 0), b""
     yield 13, "plan", (two_wanting(0, more=True), bytes_of(0, 1, 2), room), (12, 1, 0), b""
-    yield 14, "plan", (coming_round(), bytes_of(0, 1), room), (10, 0, 0), b""
+    yield 14, "plan", (coming_round(), bytes_of(0, 1), room), (10, 0, 255), b""
     yield 15, "plan", (horse_breeder(), bytes(range(7)), room), (11, 5, 1), b""
     yield 16, "check", (PORTER,), (0, 5, 3), b""
     yield 16, "check", (PORTER[:51] + bytes(4) + PORTER[55:],), (5, 50, 0), b""
@@ -1814,6 +1829,33 @@ def test_rings_of(study):
     assert free_of_rings(after) == set(after) - reached, study
 
 
+def followed(study, variable):
+    """Where a trace ends that is followed value by value, for more steps than there are values: at the start (None), at a value
+    that no action sets, or nowhere."""
+    value = study.goal(variable)
+    for _ in range(MOST_VALUES + 1):
+        if value == study.start(variable):
+            return None
+        number = setter(study, variable, value)
+        if number is None:
+            return value
+        value = study.actions[number].pre
+    return CAME_ROUND
+
+
+def test_breaks_of(study):
+    """Where each walk that there is not breaks, against where its trace ends; what 10 tells of the lowest."""
+    ends = [followed(study, v) for v in range(len(study.counts))]
+    for v, end in enumerate(ends):
+        assert (walk_of(study, v) is None) == (end is not None), (study, v)
+        assert end is None or where_it_breaks(study, v) == end, (study, v, end)
+    broken = [(v, end) for v, end in enumerate(ends) if end is not None]
+    if broken:
+        assert plan_seeded(file_of(study), b"")[0] == (10, *broken[0]), study
+        return "round" if broken[0][1] == CAME_ROUND else "goal" if broken[0][1] == study.goal(broken[0][0]) else "further back"
+    return None
+
+
 def test_runs_of(rng, study, plans):
     """Running answers 0 exactly for straight plans, and then the goal is the end state."""
     file, room = file_of(study), bytes(len(study.counts))
@@ -1826,10 +1868,11 @@ def test_runs_of(rng, study, plans):
 def test_both_ways(seed, files):
     """Both ways of planning on small files, with several rank lists each; `planned` asserts that they agree."""
     rng = random.Random(seed)
-    seen, several, skipped = Counter(), 0, 0
+    seen, breaks, several, skipped = Counter(), Counter(), 0, 0
     for _ in range(files):
         study = small_study(rng)
         assert read(file_of(study)) == replace(study, ended=True), "a generator's study does not load"
+        breaks[test_breaks_of(study)] += 1
         try:
             plans = straight_plans(study, 4000)
         except TooMany:
@@ -1847,10 +1890,12 @@ def test_both_ways(seed, files):
         test_runs_of(rng, study, plans)
         test_rings_of(study)
     assert all(seen[number] > files // 50 for number in (0, 10, 11, 12)), seen
+    assert all(breaks[where] > files // 100 for where in ("round", "goal", "further back")), breaks
     tally = ", ".join(f"{number}: {seen[number]}" for number in sorted(seen))
     return (
         f"{files - skipped} random small files through both ways of planning, every list tried: agreed"
-        f" ({tally}; {several} with several straight plans; {skipped} more had too many lists)"
+        f" ({tally}; {several} with several straight plans; {skipped} more had too many lists);"
+        f" traces that come round {breaks['round']}, break off at the goal {breaks['goal']}, further back {breaks['further back']}"
     )
 
 
@@ -1948,7 +1993,10 @@ def test_limits(seed):
         if numbers[0] == 0:
             assert run(file, buffer[: numbers[1]], bytes(32))[0][0] == 0, maker
     for maker, number in ((longest_without_walk, 10), (longest_off_walk, 11), (longest_with_ring, 12)):
-        assert plan_seeded(file_of(maker(rng)), bytes(256))[0][0] == number, maker
+        study = maker(rng)
+        numbers, _ = plan_seeded(file_of(study), bytes(256))
+        assert numbers[0] == number, maker
+        assert number != 10 or numbers[2] == study.goal(numbers[1]), maker
     return "studies at the limits: as their names say"
 
 

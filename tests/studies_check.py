@@ -32,7 +32,7 @@ FIRST_LINES = {
     "horse-breeder-fed": "plan 2",
     "hotel": "plan 20",
     "night-porter": "plan 6",
-    "no-walk": "refused 10 1 0",
+    "no-walk": "refused 10 1 255",
     "off-walk": "refused 11 1 2",
     "ring": "refused 12 1 0",
     "longest": "plan 256",

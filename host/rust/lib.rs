@@ -87,7 +87,8 @@ pub fn check(file: &[u8]) -> Answer {
     unsafe { exported::marrowkite_check(file.as_ptr(), file.len()) }
 }
 
-/// Plans with a rank list: 1 to 8, then 9, 10, 11, 12, 13. Done: the plan is `plan[..first]`.
+/// Plans with a rank list: 1 to 8, then 9, 10, 11, 12, 13. Done: the plan is `plan[..first]`. With 10, first is the lowest
+/// variable that has no walk, and second the value of it that no action in force sets, or 255 where the trace comes round.
 pub fn plan(file: &[u8], ranks: &[u8], plan: &mut [u8]) -> Answer {
     unsafe {
         exported::marrowkite_plan(
@@ -304,8 +305,17 @@ mod tests {
             let of_lists = write(situation, &[2], &actions, &[], &[0, 0, 1], 1, &mut written);
             assert_eq!((of_lists, written), (answer(0, 26, 0), file));
         }
-        assert_eq!(plan_seeded(&night_porter(3), &mut steps), answer(10, 0, 0));
+        assert_eq!(plan_seeded(&night_porter(3), &mut steps), answer(10, 0, 1));
         assert_eq!(check(&night_porter(8)), answer(5, 0, 0));
+    }
+
+    #[test]
+    fn it_says_where_a_walk_breaks() {
+        let mut broken = PORTER;
+        (broken[44], broken[45]) = (2, 1);
+        assert_eq!(plan_seeded(&broken, &mut []), answer(10, 1, 0));
+        let round = [1, 3, 2, 0, 1, 2, 2, 0, 2, 1, 4, 0, 0, 2, 5, 0, 0, 0, 1, 6];
+        assert_eq!(plan_seeded(&round, &mut []), answer(10, 0, 255));
     }
 
     #[test]

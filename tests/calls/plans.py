@@ -75,7 +75,7 @@ def worked(book):
     case(book, "case 13, both at 1 and a third", two_wanting(1, more=True), [0, 1, 2], (12, 1, 0))
     case(book, "case 13, both at 0 and a third", two_wanting(0, more=True), [0, 1, 2], (12, 1, 0))
     show_seeded(book, "case 13, both at 0 and a third", two_wanting(0, more=True), 0)
-    case(book, "case 14", coming_round(), [0, 1], (10, 0, 0))
+    case(book, "case 14", coming_round(), [0, 1], (10, 0, 255))
     case(book, "case 15", horse_breeder(), range(7), (11, 5, 1))
 
 
@@ -237,7 +237,7 @@ def situations(book):
         case(book, f"by day, situation {situation}", loading(situation), [0, 1, 2], (0, 2, 0), [1, 0])
     case(book, "by night", loading(2), [0, 1, 2], (0, 2, 0), [1, 2])
     case(book, "by night, other ranks", loading(2), [0, 2, 1], (0, 2, 0), [2, 1])
-    case(book, "neither by day nor by night", loading(3), [0, 1, 2], (10, 0, 0))
+    case(book, "neither by day nor by night", loading(3), [0, 1, 2], (10, 0, 1))
     case(book, "a rank for each action, in force or not", loading(2), [0, 1], (9, 2, 1))
     for situation in (0, 2, 3):
         show_seeded(book, f"loading in situation {situation}", loading(situation))
@@ -248,9 +248,80 @@ def situations(book):
     case(book, "no ring by night", file_of(Study([2, 2], ring, [(0, 1)] * 2, 1, 1)), [0, 1, 2], (0, 2, 0), [2, 0])
 
 
+# Where a walk breaks: at a value that no action sets, or nowhere, as the trace comes round.
+
+
+def chain(variable, *values):
+    """Actions from each value to the next."""
+    return [Action(variable, pre, post) for pre, post in zip(values, values[1:])]
+
+
+def breaking(book, name, counts, actions, tasks, numbers, steps=(), situation=0):
+    file = file_of(Study(counts, actions, tasks, 1, situation))
+    case(book, f"a walk: {name}", file, range(len(actions)), numbers, steps, 16)
+
+
+def broken_walks(book):
+    breaking(book, "broken at the goal itself", [3], chain(0, 0, 1), [(0, 2)], (10, 0, 2))
+    breaking(book, "broken at the goal, which an action leaves", [3], chain(0, 2, 1, 0), [(0, 2)], (10, 0, 2))
+    breaking(book, "broken in the middle", [6], chain(0, 0, 1, 2) + chain(0, 3, 4, 5), [(0, 5)], (10, 0, 3))
+    breaking(book, "broken beside the start", [4], chain(0, 1, 2, 3), [(0, 3)], (10, 0, 1))
+    breaking(book, "broken at 0", [3], chain(0, 0, 2), [(1, 2)], (10, 0, 0))
+    breaking(book, "broken at 15", [16], chain(0, 15, 1), [(0, 1)], (10, 0, 15))
+    breaking(book, "broken at 15, the goal", [16], [], [(0, 15)], (10, 0, 15))
+    breaking(book, "broken after 14 actions", [16], chain(0, *range(1, 16)), [(0, 15)], (10, 0, 1))
+    breaking(book, "whole, of 15 actions", [16], chain(0, *range(16)), [(0, 15)], (0, 15, 0), range(15))
+
+
+def out_of_force(book):
+    """One action by night alone, in situation 1; one by day, in situation 0, that leads round."""
+    one = [Action(0, 0, 1, [], 2), Action(0, 1, 2)]
+    two = [Action(0, 0, 1, [], 2), Action(0, 1, 2), Action(0, 2, 1, [], 1)]
+    breaking(book, "broken where the action is out of force", [3], one, [(0, 2)], (10, 0, 1))
+    breaking(book, "whole where it is in force", [3], one, [(0, 2)], (0, 2, 0), [0, 1], 1)
+    breaking(book, "round by day", [3], two, [(0, 2)], (10, 0, 255))
+    breaking(book, "whole by night", [3], two, [(0, 2)], (0, 2, 0), [0, 1], 1)
+    breaking(book, "broken in a third situation", [3], two, [(0, 2)], (10, 0, 1), situation=2)
+    breaking(book, "broken at a goal that is set out of force", [2], [Action(0, 0, 1, [], 0)], [(0, 1)], (10, 0, 1))
+
+
+def circles(book):
+    breaking(book, "round, and the start is on no circle", [4], chain(0, 1, 2, 3, 1), [(0, 1)], (10, 0, 255))
+    breaking(book, "round a circle without the goal", [5], chain(0, 1, 2, 1) + chain(0, 2, 3, 4), [(0, 4)], (10, 0, 255))
+    breaking(book, "round through 15 values", [16], chain(0, *range(1, 16), 1), [(0, 15)], (10, 0, 255))
+    breaking(book, "round at the end of 13 actions", [16], chain(0, 2, 1, *range(2, 16)), [(0, 15)], (10, 0, 255))
+    breaking(book, "round, but for the start on the circle", [3], chain(0, 0, 1, 2, 0), [(1, 0)], (0, 2, 0), [1, 2])
+    breaking(book, "all 16 values round, the start among them", [16], chain(0, *range(16), 0), [(5, 4)], (0, 15, 0), [*range(5, 16), *range(4)])
+
+
+def lowest_broken(book):
+    """Of several variables the lowest is told of, whichever way it breaks."""
+    round_at = [chain(v, 1, 2, 1) for v in range(4)]
+    breaking(book, "two come round", [3, 3], round_at[0] + round_at[1], [(0, 2)] * 2, (10, 0, 255))
+    breaking(book, "one breaks, one comes round", [3, 3], round_at[1], [(0, 1), (0, 2)], (10, 0, 1))
+    breaking(book, "one comes round, one breaks", [3, 3], round_at[0], [(0, 2), (0, 1)], (10, 0, 255))
+    lower, tasks = chain(0, 0, 1, 2), [(0, 2), (1, 1), (0, 2), (0, 2)]
+    breaking(book, "two have one, the third breaks", [3] * 4, lower + chain(2, 1, 2) + round_at[3], tasks, (10, 2, 1))
+    breaking(book, "two have one, the third comes round", [3] * 4, lower + round_at[2] + chain(3, 1, 2), tasks, (10, 2, 255))
+    breaking(book, "the last of 32", [16] * 32, chain(31, 7, 8, 9), [(3, 3)] * 31 + [(3, 9)], (10, 31, 7))
+
+
+def many_broken(book):
+    """80 actions: five variables, each of whose 16 values is set from the one below it."""
+    actions = [Action(v, (q - 1) % 16, q) for v in range(5) for q in range(16)]
+    for name, number, other, end in [("broken among 80 actions", 73, None, 9), ("round among 80 actions", 73, 12, 255)]:
+        some = actions[:number] + ([Action(4, other, number % 16)] if other else []) + actions[number + 1 :]
+        breaking(book, name, [16] * 5, some, [(0, 15)] * 4 + [(4, 15)], (10, 4, end))
+
+
 def write(book):
     worked(book)
     situations(book)
+    broken_walks(book)
+    out_of_force(book)
+    circles(book)
+    lowest_broken(book)
+    many_broken(book)
     other_files(book)
     rank_lists(book)
     which_first(book)

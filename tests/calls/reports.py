@@ -2,7 +2,7 @@
 
 from dataclasses import replace
 
-from oracle import PORTER, Action, Study, drawn, file_of, porter, read, report, two_wanting
+from oracle import PORTER, Action, Study, coming_round, drawn, file_of, porter, read, report, two_wanting
 
 LARGEST = 2**64 - 1
 LAST_SEED = 2147483646
@@ -68,6 +68,7 @@ def no_plans(book):
     """All seeds are refused alike: five figures."""
     for name, file, at in [
         ("10", porter((1, 0, 1), start=(0, 2, 0)), 1),
+        ("10, coming round,", coming_round(), 1),
         ("11", porter((0, 2, 1)), 2),
         ("12", two_wanting(1), 3),
     ]:

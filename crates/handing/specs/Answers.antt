@@ -15,7 +15,7 @@ use Rattle.planning.specs.Refusals.{withoutWalk, offWalk, withRing}
 
 abbrev pub notWalked : Walked → Answer
 notWalked (Walk.All total) = done 0 0
-notWalked (Walk.NoWalk v) = withoutWalk v
+notWalked (Walk.NoWalk v b) = withoutWalk v b
 
 abbrev pub notMet : Met → Answer
 notMet Meet.All = done 0 0

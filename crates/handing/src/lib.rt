@@ -37,13 +37,13 @@ pub fn unranked(tested: Tested, len: usize) -> Answer
     }
 }
 
-// A variable with no walk.
+// A variable with no walk, and where its trace breaks off.
 pub fn unwalked(walked: Walked) -> Answer
     ensures { λ r. ⌜ r ≡ notWalked walked ⌝ }
 {
     match walked {
         Walked::All(_) => numbers(0, 0, 0),
-        Walked::NoWalk(v) => numbers(10, v, 0),
+        Walked::NoWalk { var, value } => numbers(10, var, tables::wide(value)),
     }
 }
 

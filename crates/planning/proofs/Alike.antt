@@ -16,7 +16,7 @@ use Rattle.planning.proofs.Ways.{Barred, short, fits, Way, at-fault, ba
 module _ {t : Study} (lawful : Lawful t) where
   barred-again : {ranks before after : List ℕ} {r r′ : Answer} → Barred t r → Way t ranks before r′ after → (r′ .number ≡ 9) ⊎ (r′ ≡ r)
   barred-again b (at-fault f) = inl refl
-  barred-again b (barred fine c) = inr (barred-determined c b)
+  barred-again b (barred fine c) = inr (barred-determined lawful c b)
   barred-again b (planned fine p l) = absurd (barred-has-none lawful b (p .straight))
 
   pub barred-alike :

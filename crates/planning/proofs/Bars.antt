@@ -11,14 +11,14 @@ use Rattle.walks.specs.Walks.{OnAWalk, ComesBefore, Walks, Met}
 use Rattle.walks.proofs.Ordered.{straight-walks, straight-met, straight-is-order}
 use Rattle.planning.specs.Planning.{LowestWithout, LowestOff}
 
-pub without-bars-walks : {t : Study} {v : ℕ} → LowestWithout t v → Walks t → ⊥
+pub without-bars-walks : {t : Study} {v b : ℕ} → LowestWithout t v b → Walks t → ⊥
 without-bars-walks {t} {v} l walks = let (list, walk) = walks v (l .there) in l .without list walk
 
 pub off-bars-met : {t : Study} {i u : ℕ} → LowestOff t i u → Met t → ⊥
 off-bars-met {t} {i} {u} l met = l .off (met i (l .on-walk) u (l .value) (l .wants-it))
 
 module _ {t : Study} (lawful : Lawful t) {list : List ℕ} (straight : StraightPlan t list) where
-  pub without-bars-plans : {v : ℕ} → LowestWithout t v → ⊥
+  pub without-bars-plans : {v b : ℕ} → LowestWithout t v b → ⊥
   without-bars-plans l = without-bars-walks l (straight-walks lawful straight)
 
   pub off-bars-plans : {i u : ℕ} → LowestOff t i u → ⊥

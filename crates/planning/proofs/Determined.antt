@@ -15,6 +15,7 @@ use Rattle.study.specs.Reading.{Said, says, refused, reading}
 use Rattle.lawful.specs.Lawful.{Lawful}
 use Rattle.lawful.proofs.Loads.{LawfulIfSaid, reading-lawful}
 use Rattle.orders.proofs.Lists.{counted-unique}
+use Rattle.walks.proofs.Breaks.{breaks-determined}
 use Rattle.planning.specs.Planning.{LowestWithout, LowestOff, Plans, PlansFile}
 use Rattle.planning.proofs.Bars.{without-bars-walks, off-bars-met}
 use Rattle.planning.proofs.Found.{first-plan-determined}
@@ -26,12 +27,14 @@ fault-determined ranks Fine x y x′ y′ f g = absurd f
 fault-determined ranks Length x y x′ y′ f g = (f .0 ∙ sym (g .0), f .1 ∙ sym (g .1))
 fault-determined ranks (Entry k) x y x′ y′ f g = (f .0 ∙ sym (g .0), f .1 ∙ sym (g .1))
 
--- 10: one variable is the lowest
-without-not-below : {t : Study} {v w : ℕ} → LowestWithout t v → LowestWithout t w → v < w → ⊥
+-- 10: one variable is the lowest, and its trace breaks off in one way
+without-not-below : {t : Study} {v x w y : ℕ} → LowestWithout t v x → LowestWithout t w y → v < w → ⊥
 without-not-below {t} {v} a b h = let (list, walk) = b .lower v h in a .without list walk
 
-pub without-determined : {t : Study} {v w : ℕ} → LowestWithout t v → LowestWithout t w → v ≡ w
-without-determined a b = omega (arith, without-not-below a b, without-not-below b a)
+pub without-determined : {t : Study} {v x w y : ℕ} → Lawful t → LowestWithout t v x → LowestWithout t w y → (v ≡ w) × (x ≡ y)
+without-determined {t} {v} {x} {w} {y} lawful a b =
+    let e : v ≡ w = omega (arith, without-not-below a b, without-not-below b a) in
+    (e, breaks-determined lawful (rw e at (a .breaks)) (b .breaks))
 
 -- 11: one action is the lowest, and one variable of it
 action-not-below : {t : Study} {i u j w : ℕ} → LowestOff t i u → LowestOff t j w → i < j → ⊥
@@ -47,16 +50,16 @@ off-determined {t} {i} {u} {j} {w} a b =
     (e, omega (arith, variable-not-below a c, variable-not-below c a))
 
 -- 10, 11, 12: one bar, as an earlier one bars what a later one takes for given
-pub barred-determined : {t : Study} {r r′ : Answer} → Barred t r → Barred t r′ → r ≡ r′
-barred-determined (without a) (without b) = let e = without-determined a b in cc
-barred-determined (without a) (off walks b) = absurd (without-bars-walks a walks)
-barred-determined (without a) (on-ring walks met c n) = absurd (without-bars-walks a walks)
-barred-determined (off walks a) (without b) = absurd (without-bars-walks b walks)
-barred-determined (off _ a) (off _ b) = let (e, f) = off-determined a b in cc
-barred-determined (off _ a) (on-ring _ met c n) = absurd (off-bars-met a met)
-barred-determined (on-ring walks met c n) (without b) = absurd (without-bars-walks b walks)
-barred-determined (on-ring _ met c n) (off _ b) = absurd (off-bars-met b met)
-barred-determined (on-ring _ _ _ n) (on-ring _ _ _ m) = let e = counted-unique n m in cc
+pub barred-determined : {t : Study} {r r′ : Answer} → Lawful t → Barred t r → Barred t r′ → r ≡ r′
+barred-determined lawful (without a) (without b) = let (e, f) = without-determined lawful a b in cc
+barred-determined lawful (without a) (off walks b) = absurd (without-bars-walks a walks)
+barred-determined lawful (without a) (on-ring walks met c n) = absurd (without-bars-walks a walks)
+barred-determined lawful (off walks a) (without b) = absurd (without-bars-walks b walks)
+barred-determined lawful (off _ a) (off _ b) = let (e, f) = off-determined a b in cc
+barred-determined lawful (off _ a) (on-ring _ met c n) = absurd (off-bars-met a met)
+barred-determined lawful (on-ring walks met c n) (without b) = absurd (without-bars-walks b walks)
+barred-determined lawful (on-ring _ met c n) (off _ b) = absurd (off-bars-met b met)
+barred-determined lawful (on-ring _ _ _ n) (on-ring _ _ _ m) = let e = counted-unique n m in cc
 
 -- 13, 0
 laid-determined :
@@ -75,7 +78,7 @@ module _ {t : Study} (lawful : Lawful t) {ranks before : List ℕ} where
   way-determined (at-fault f) (barred fine b) = absurd (rw fine at f)
   way-determined (at-fault f) (planned fine p l) = absurd (rw fine at f)
   way-determined (barred fine b) (at-fault f) = absurd (rw fine at f)
-  way-determined (barred _ a) (barred _ b) = (barred-determined a b, refl)
+  way-determined (barred _ a) (barred _ b) = (barred-determined lawful a b, refl)
   way-determined (barred _ b) (planned _ p l) = absurd (barred-has-none lawful b (p .straight))
   way-determined (planned fine p l) (at-fault f) = absurd (rw fine at f)
   way-determined (planned _ p l) (barred _ b) = absurd (barred-has-none lawful b (p .straight))

@@ -27,7 +27,7 @@ Fault ranks (Entry k) first second = (first ≡ k) × (second ≡ 0)
 
 -- 10, 11, 12: what bars every straight plan
 pub data Barred (t : Study) : Answer → Type 0 where
-  without : {v : ℕ} → LowestWithout t v → Barred t (withoutWalk v)
+  without : {v b : ℕ} → LowestWithout t v b → Barred t (withoutWalk v b)
   off : {i u : ℕ} → Walks t → LowestOff t i u → Barred t (offWalk i u)
   on-ring : {n x : ℕ} → Walks t → Met t → OnRing (OnAWalk t) (ComesBefore t) x → FreeOfRings t n → Barred t (withRing n)
 

@@ -14,12 +14,14 @@ use Rattle.study.specs.Reading.{Said, says, refused, reading}
 use Rattle.plans.specs.Plans.{StraightPlan}
 use Rattle.orders.specs.Orders.{OnRing, Behind, Counted, First}
 use Rattle.planning.specs.Refusals.{notRanked, withoutWalk, offWalk, withRing, shortBuffer}
+use Rattle.walks.specs.Breaks.{Breaks}
 use Rattle.walks.specs.Walks.{Walk, OnAWalk, ValueOnWalk, Wants, ComesBefore, Walks, Met, conditionsOf}
 
--- 10: v is the lowest variable that has no walk
-pub record LowestWithout (t : Study) (v : ℕ) : Type 0 where
+-- 10: v is the lowest variable that has no walk, and b tells where its trace breaks off
+pub record LowestWithout (t : Study) (v b : ℕ) : Type 0 where
   pub there : v < length (t .tasks)
   pub without : (list : List ℕ) → Walk t v list → ⊥
+  pub breaks : Breaks t v b
   pub lower : (u : ℕ) → u < v → (list : List ℕ) × Walk t u list
 
 -- 11: i is the lowest action on a walk with a condition off its variable's walk, and u its lowest such variable
@@ -48,7 +50,7 @@ pub record FirstPlan (t : Study) (ranks list : List ℕ) : Type 0 where
 pub data Plans (t : Study) (ranks before : List ℕ) : Answer → List ℕ → Type 0 where
   wrong-length : tested ranks (length (t .actions)) ≡ Length → Plans t ranks before (notRanked (length ranks) Length) before
   wrong-entry : {k : ℕ} → tested ranks (length (t .actions)) ≡ Entry k → Plans t ranks before (notRanked (length ranks) (Entry k)) before
-  no-walk : {v : ℕ} → tested ranks (length (t .actions)) ≡ Fine → LowestWithout t v → Plans t ranks before (withoutWalk v) before
+  no-walk : {v b : ℕ} → tested ranks (length (t .actions)) ≡ Fine → LowestWithout t v b → Plans t ranks before (withoutWalk v b) before
   off-walk : {i u : ℕ} → tested ranks (length (t .actions)) ≡ Fine → Walks t → LowestOff t i u → Plans t ranks before (offWalk i u) before
   ring :
       {n x : ℕ} → tested ranks (length (t .actions)) ≡ Fine → Walks t → Met t

@@ -1,4 +1,4 @@
--- Document 01's numbers for each refusal of planning.
+-- The numbers of documents 01 and 02 for each refusal of planning.
 -- Assumes nothing.
 use Prim.Native.Nat.{ℕ, _≤_}
 use Rattle.answer.specs.Answers.{three, done, refusal}
@@ -12,9 +12,9 @@ notRanked len Fine = done 0 0
 notRanked len Length = three 9 len 1
 notRanked len (Entry k) = refusal 9 k
 
--- 10: a variable has no walk
-abbrev pub withoutWalk : ℕ → Answer
-withoutWalk v = refusal 10 v
+-- 10: a variable has no walk, and where its trace breaks off
+abbrev pub withoutWalk : ℕ → ℕ → Answer
+withoutWalk v b = three 10 v b
 
 -- 11: an action on a walk has a condition off its variable's walk
 abbrev pub offWalk : ℕ → ℕ → Answer

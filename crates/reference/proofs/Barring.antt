@@ -12,9 +12,10 @@ use Rattle.answer.specs.declared.Answer.{Answer}
 use Rattle.study.specs.Study.{Condition, Study}
 use Rattle.lawful.specs.Lawful.{Lawful}
 use Rattle.walks.specs.Walks.{conditionsOf, Walk, OnAWalk, ValueOnWalk, Wants, Walks, Met}
-use Rattle.walks.specs.Traces.{walkOf}
+use Rattle.walks.specs.Traces.{breakOf, walkOf}
 use Rattle.walks.proofs.Leads.{on-walk-usable}
 use Rattle.walks.proofs.Wanted.{wanted-there}
+use Rattle.walks.proofs.Breaks.{without-walk-breaks}
 use Rattle.walks.proofs.Traces.{WalkOf, found, none-there, walk-of-tells}
 use Rattle.planning.specs.Refusals.{withoutWalk, offWalk}
 use Rattle.planning.specs.Planning.{LowestWithout, LowestOff}
@@ -41,18 +42,18 @@ orZero none = 0
 orZero (some n) = n
 
 -- 10, 11, or nothing
-abbrev pub barredBy : Option ℕ → Option ℕ → (ℕ → ℕ) → Option Answer
-barredBy (some v) o f = some (withoutWalk v)
-barredBy none (some i) f = some (offWalk i (f i))
-barredBy none none f = none
+abbrev pub barredBy : Study → Option ℕ → Option ℕ → Option Answer
+barredBy t (some v) o = some (withoutWalk v (breakOf t v))
+barredBy t none (some i) = some (offWalk i (orZero (offVariable t i)))
+barredBy t none none = none
 
 unfoldable pub barred : Study → Option Answer
-barred t = barredBy (lowestWithout t) (offAction t) (λ i. orZero (offVariable t i))
+barred t = barredBy t (lowestWithout t) (offAction t)
 
 -- ---- what is found
 
 pub data Bar (t : Study) : Option Answer → Type 0 where
-  lacks-walk : {v : ℕ} → LowestWithout t v → Bar t (some (withoutWalk v))
+  lacks-walk : {v b : ℕ} → LowestWithout t v b → Bar t (some (withoutWalk v b))
   off-its-walk : {i u : ℕ} → Walks t → LowestOff t i u → Bar t (some (offWalk i u))
   no-bar : Walks t → Met t → Bar t none
 
@@ -125,9 +126,9 @@ module _ {t : Study} (lawful : Lawful t) where
           from (none-there m) = absurd (n m)
 
       go : {o p : Option ℕ} → Lowest (λ v. (w : List ℕ) → Walk t v w → ⊥) (length (t .tasks)) o
-          → Lowest (λ i. OnAWalk t i × SomeOff t i) (length (t .actions)) p → Bar t (barredBy o p (λ i. orZero (offVariable t i)))
+          → Lowest (λ i. OnAWalk t i × SomeOff t i) (length (t .actions)) p → Bar t (barredBy t o p)
       go (is-lowest there without lower) _ =
-          lacks-walk (record { there = there; without = without; lower = λ u h. has-walk u (lower u h) })
+          lacks-walk (record { there = there; without = without; breaks = without-walk-breaks without; lower = λ u h. has-walk u (lower u h) })
       go (is-nowhere n) (is-lowest {x = i} there (on, some-off) lower) =
           off-at (λ v h. has-walk v (n v h)) i on some-off lower (off-variable-tells i)
       go (is-nowhere n) (is-nowhere m) =

@@ -7,7 +7,7 @@ use native.Mathlib.Omega.{arith}
 use lib.ListN.{length, getD}
 use Rattle.study.specs.Study.{Study}
 use Rattle.lawful.specs.Lawful.{Has, Lawful}
-use Rattle.walks.specs.Walks.{preOf, postOf, goalOf}
+use Rattle.walks.specs.Walks.{preOf, postOf, startOf, goalOf}
 use Rattle.tracing.specs.Facts.{Tells, Moves}
 
 module _ {t : Study} (lawful : Lawful t) where
@@ -19,6 +19,9 @@ module _ {t : Study} (lawful : Lawful t) where
 
   pub post-small : (i : ℕ) → i < length (t .actions) → postOf t i < 16
   post-small i h = value-small (lawful .action i h .has-post)
+
+  pub start-small : (v : ℕ) → v < length (t .tasks) → startOf t v < 16
+  start-small v h = value-small (lawful .has-start v h)
 
   pub goal-small : (v : ℕ) → v < length (t .tasks) → goalOf t v < 16
   goal-small v h = value-small (lawful .has-goal v h)

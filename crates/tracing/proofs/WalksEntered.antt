@@ -14,11 +14,13 @@ use Rattle.walks.specs.Walks.{Walk, OnAWalk, varOf, preOf, startOf, goalOf}
 use Rattle.orders.proofs.Lists.{in-append-left, in-append-right, in-append-cases, distinct-append}
 use Rattle.walks.proofs.Leads.{leads-in}
 use Rattle.walks.proofs.Unique.{walk-unique, walk-distinct, walk-there}
-use Rattle.tracing.specs.Steps.{RowTo, EmptyRow, WayEntered, NoWayWithin, Rowed, WalksAll}
+use Rattle.tracing.specs.Steps.{RowTo, EmptyRow, WayEntered, BrokenOff, GoneOn, Rowed, WalksAll}
+use Rattle.walks.specs.Breaks.{Breaks, unset, round, cameRound}
+use Rattle.walks.proofs.Breaks.{twice-round, walk-never-breaks}
 use Rattle.planning.specs.Planning.{LowestWithout}
 use Rattle.tracing.specs.declared.Walked.the-variants.{All}
-use Rattle.tracing.proofs.Ranges.{pre-small, goal-small, few-tasks}
-use Rattle.tracing.proofs.Few.{walk-short}
+use Rattle.tracing.proofs.Ranges.{pre-small, start-small, goal-small, few-tasks}
+use Rattle.tracing.proofs.Few.{trail-short}
 use Rattle.tracing.proofs.Entering.{SameRows, row-entered, same-rows}
 
 -- the actions on the walks of the first m variables, each once
@@ -115,13 +117,21 @@ module _ {t : Study} (lawful : Lawful t) where
               (list, (w, row-stays v u steps steps′ list (omega arith) (omega arith) same w r))
           rows u h (no g) = let f : u ≡ v = omega arith in rw f (walk, (way, row))
 
-      pub without-walk : NoWayWithin t v (goalOf t v) 16 → LowestWithout t v
-      without-walk none =
+      lowest-without : {b : ℕ} → Breaks t v b → LowestWithout t v b
+      lowest-without broken =
           record {
             there = there;
-            without = λ list walk. omega (arith, none list walk, walk-short lawful walk);
+            without = λ list walk. walk-never-breaks lawful walk broken;
+            breaks = broken;
             lower = λ u h. let (list, (w, r)) = entered .rowed u h in (list, w);
           }
+
+      pub breaks-off : {p : ℕ} → BrokenOff t v (goalOf t v) p → LowestWithout t v p
+      breaks-off (passed, (back, (off, nobody))) = lowest-without (unset (record { passed = passed; back = back; off = off; unset = nobody }))
+
+      pub goes-round : GoneOn t v (goalOf t v) 16 → LowestWithout t v cameRound
+      goes-round (p, (passed, (back, long))) =
+          lowest-without (round (twice-round p passed back (λ d. omega (arith, long, trail-short lawful (start-small lawful v there) back d))))
 
 pub all-entered :
     {t : Study} {n : ℕ} {steps : List ℕ} {total : ℕ} → n ≡ length (t .tasks) → Entered t n steps total → WalksAll t n steps (All total)

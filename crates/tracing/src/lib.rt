@@ -1,16 +1,12 @@
 // Walks, traced from the goal value back.
 ghost use mathlib.Core.Path.{_≡_};
-ghost use mathlib.Core.Logic.{_≢_};
 ghost use Prim.Native.Nat.{ℕ, _+_, _≤_, _<_};
 ghost use lib.ListN.{length};
 ghost use Rattle.study.specs.Study.{Study};
 ghost use Rattle.walks.specs.Walks.{startOf, goalOf};
 ghost use Rattle.tables.specs.Rows.{startColumn, goalColumn};
 ghost use Rattle.tracing.specs.Facts.{MovesIn, Tells};
-ghost use Rattle.tracing.specs.Steps.{SetterIs, noWalk, Traces, EmptyRow, WalksAll};
-
-// A trace's answer where it broke off or came round.
-const NO_WALK: u8 = 255;
+ghost use Rattle.tracing.specs.Steps.{SetterIs, told, Traces, EmptyRow, WalksAll};
 
 // The action in force that sets a variable to a value, or that none does.
 pub enum Named {
@@ -18,10 +14,27 @@ pub enum Named {
     Nobody,
 }
 
-// Every variable has a walk, with the number of all their actions; or the lowest variable that has none.
+// A trace's number where it came round; where it broke off, this much more than the value that no action in force sets.
+const ROUND: u8 = 255;
+
+const BREAKS: u8 = 32;
+
+// Told of such a trace in place of a value.
+const CAME_ROUND: u8 = 255;
+
+// The start was met, with how many actions the walk has; or the trace came to a value that no action in force sets; or it
+// came round.
+pub enum Traced {
+    Met(u8),
+    Breaks(u8),
+    Round,
+}
+
+// Every variable has a walk, with the number of all their actions; or the lowest variable that has none, with the value
+// that no action in force sets, or 255 where the trace comes round.
 pub enum Walked {
     All(usize),
-    NoWalk(usize),
+    NoWalk { var: usize, value: u8 },
 }
 
 fn setter(setters: &[u8; 512], acts: &[[u8; 6]; 256], actions: usize, v: usize, q: u8) -> Named
@@ -39,8 +52,9 @@ fn setter(setters: &[u8; 512], acts: &[[u8; 6]; 256], actions: usize, v: usize, 
 }
 
 // Traces variable v from value q back to its start, and enters in steps, for each value that the trace comes to, 2 more
-// than the action that leaves it. Answers how many actions the walk has, `passed` of them before, or `NO_WALK` if it broke
-// off or came round. At most left more values may be passed.
+// than the action that leaves it. Answers how many actions the walk has, `passed` of them before, or where it broke off, or
+// that it came round, as a number, which a loop can hand on; `outcome` says what the number means. At most left more values
+// may be passed.
 fn trace(
     v: usize,
     start: u8,
@@ -52,23 +66,23 @@ fn trace(
     acts: &[[u8; 6]; 256],
     steps: &mut [u16; 512],
 ) -> u8
-    requires { ⌜ (v < 32) × (q < 16) × (left + passed < noWalk) × (length (now steps) ≡ 512)
+    requires { ⌜ (v < 32) × (q < 16) × (left + passed < 32) × (length (now steps) ≡ 512)
         × ((t : Study) × MovesIn actions (now setters) (now acts) t) ⌝ }
-    ensures { λ r. ⌜ (length (now (steps .exit)) ≡ 512) × (r ≢ noWalk → r ≤ left + passed) ⌝ }
+    ensures { λ r. ⌜ (length (now (steps .exit)) ≡ 512) × (r < 32 → r ≤ left + passed) ⌝ }
     ensures { λ r. ⌜ ((t : Study)
         → MovesIn actions (now (setters .entry)) (now (acts .entry)) t
         → startOf t v ≡ start
-        → Traces t v q left passed (now (steps .entry)) (now (steps .exit)) r) ⌝ }
+        → Traces t v q left passed (now (steps .entry)) (now (steps .exit)) (told r)) ⌝ }
 {
     if q == start {
         return passed;
     }
     if left == 0 {
-        return NO_WALK;
+        return ROUND;
     }
     let found = setter(setters, acts, actions, v, q);
     let Named::Is(i) = found else {
-        return NO_WALK;
+        return BREAKS + q;
     };
     let act = tables::action_at(acts, i);
     steps[16 * v + tables::wide(act.pre)] = (i + 2) as u16;
@@ -83,6 +97,19 @@ fn trace(
         acts,
         steps,
     )
+}
+
+// What a trace's number says.
+fn outcome(number: u8) -> Traced
+    ensures { λ r. ⌜ r ≡ told number ⌝ }
+{
+    if number < BREAKS {
+        return Traced::Met(number);
+    }
+    if number == ROUND {
+        return Traced::Round;
+    }
+    Traced::Breaks(number - BREAKS)
 }
 
 pub fn walk_all(
@@ -113,11 +140,22 @@ pub fn walk_all(
     while v < n {
         let var = tables::variable_at(vars, v);
         steps[16 * v + tables::wide(var.goal)] = 1;
-        let traced = trace(v, var.start, var.goal, 16, 0, actions, setters, acts, steps);
-        if traced == NO_WALK {
-            return Walked::NoWalk(v);
+        let number = trace(v, var.start, var.goal, 16, 0, actions, setters, acts, steps);
+        let traced = outcome(number);
+        match traced {
+            Traced::Met(many) => {
+                total += tables::wide(many);
+            }
+            Traced::Breaks(value) => {
+                return Walked::NoWalk { var: v, value };
+            }
+            Traced::Round => {
+                return Walked::NoWalk {
+                    var: v,
+                    value: CAME_ROUND,
+                };
+            }
         }
-        total += tables::wide(traced);
         v += 1;
     }
     Walked::All(total)

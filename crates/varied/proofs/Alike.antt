@@ -43,7 +43,7 @@ module _ {t : Study} (lawful : Lawful t) where
 
   bar-and-bar : {seed other : ℕ} {r : Answer} {o : Outcome} → Yields t seed (barred r) → Yields t other o → o ≡ barred r
   bar-and-bar (a-bar b) (a-first-plan p) = absurd (barred-has-none lawful b (p .straight))
-  bar-and-bar (a-bar b) (a-bar c) = ap barred (barred-determined c b)
+  bar-and-bar (a-bar b) (a-bar c) = ap barred (barred-determined lawful c b)
 
   -- ---- one seed, and some in a row
 

@@ -23,7 +23,7 @@ refusedWith n (barred r ∷ rest) = one (eqb (r .number) n) + refusedWith n rest
 
 -- the refusals that are counted, in the order in which planning tests them
 abbrev pub countedRefusals : List ℕ
-countedRefusals = withoutWalk 0 .number ∷ offWalk 0 0 .number ∷ withRing 0 .number ∷ []
+countedRefusals = withoutWalk 0 0 .number ∷ offWalk 0 0 .number ∷ withRing 0 .number ∷ []
 
 -- two lists are the same
 unfoldable pub sameList : List ℕ → List ℕ → Bool

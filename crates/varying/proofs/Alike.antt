@@ -137,9 +137,9 @@ plan-long {e = e} given =
     as-long-as-members (given .entered .lawful) (given .entered .members) (e .first) (given .comes) ∙ given .entered .counted
 
 -- a variable without a walk bars every seed
-pub without-comes : {t : Study} {v : ℕ} → Lawful t → (seed : ℕ) → LowestWithout t v → ComesTo t seed (barred (withoutWalk v))
-without-comes {t} {v} lawful seed lowest =
-    subst (ComesTo t seed) (refusal-told (withoutWalk v) anyRoom (λ e. omega arith)) (comes-to lawful seed (omega (arith, length-replicate {A = ℕ} 256 0)) answers)
+pub without-comes : {t : Study} {v b : ℕ} → Lawful t → (seed : ℕ) → LowestWithout t v b → ComesTo t seed (barred (withoutWalk v b))
+without-comes {t} {v} {b} lawful seed lowest =
+    subst (ComesTo t seed) (refusal-told (withoutWalk v b) anyRoom (λ e. omega arith)) (comes-to lawful seed (omega (arith, length-replicate {A = ℕ} 256 0)) answers)
   where
-    answers : Plans t (drawn seed (length (t .actions))) anyRoom (withoutWalk v) anyRoom
+    answers : Plans t (drawn seed (length (t .actions))) anyRoom (withoutWalk v b) anyRoom
     answers = no-walk (rank-list-is-fine (drawn-is-rank-list seed (length (t .actions)))) lowest

@@ -7,4 +7,5 @@ pub mod Ordered
 pub mod Along
 pub mod Straight
 pub mod Traces
+pub mod Breaks
 pub mod Next

@@ -21,6 +21,7 @@ use Rattle.plans.proofs.Usable.{setter-usable, usable-sets, one-setter}
 use Rattle.orders.specs.Orders.{In, Distinct}
 use Rattle.orders.proofs.Lists.{distinct-below}
 use Rattle.walks.specs.Walks.{varOf, preOf, postOf, startOf, goalOf, Leads, Way, Walk}
+use Rattle.walks.specs.Breaks.{Back, Unset, BreaksAt}
 use Rattle.walks.specs.Traces.{setterFrom, setterOf, Trace, meets, breaks, comes-round, backBy, tracedBack, trace, walkIn, walkOf}
 use Rattle.walks.proofs.Leads.{leads-in}
 use Rattle.walks.proofs.Ways.{Shorter, way-last}
@@ -60,18 +61,11 @@ setter-tells situation k (a ∷ rest) v q =
 
 -- ---- what a trace tells
 
--- traced back from the goal as far as q: the actions found lead on from it, and none sets the start
-pub record Back (t : Study) (v q : ℕ) (found : List ℕ) : Type 0 where
-  pub leads : Leads t v q found (goalOf t v)
-  pub new : (i : ℕ) → In i found → postOf t i ≢ startOf t v
-
 pub data Tells (t : Study) (v : ℕ) : Trace → Type 0 where
   -- the start is met
   met : {w : List ℕ} → Walk t v w → Tells t v (meets w)
   -- a value on the way that no action in force sets
-  unset :
-      {q : ℕ} {found : List ℕ} → Back t v q found → q ≢ startOf t v
-      → ((i : ℕ) → Usable t i → varOf t i ≡ v → postOf t i ≡ q → ⊥) → Tells t v (breaks q)
+  unset : {q : ℕ} → BreaksAt t v q → Tells t v (breaks q)
   -- an action was passed twice
   round : {q : ℕ} {found : List ℕ} → Back t v q found → (Distinct found → ⊥) → Tells t v comes-round
 
@@ -90,7 +84,7 @@ module _ (t : Study) (v : ℕ) where
       on : q ≢ startOf t v → {o : Option ℕ} → Setter (t .situation) 0 (t .actions) v q o
           → ((i : ℕ) → Back t v (preOf t i) (i ∷ found) → Tells t v (tracedBack t v n (preOf t i) (i ∷ found)))
           → Tells t v (backBy o q (λ i. tracedBack t v n (preOf t i) (i ∷ found)))
-      on away (set-by-none no-one) further = unset back away (λ i u e f. no-one i (usable-sets u e f))
+      on away (set-by-none no-one) further = unset (record { passed = found; back = back; off = away; unset = λ i u e f. no-one i (usable-sets u e f) })
       on away (set-by {i = i} s) further =
           let is : i ≡ s .at = omega (arith, s .is) in
           let post : postOf t i ≡ q = rw is (s .sets .post) in
@@ -104,33 +98,52 @@ module _ (t : Study) (v : ℕ) where
   unfolding trace
   trace-tells = back-tells (suc (length (t .actions))) (goalOf t v) [] (record { leads = refl; new = λ i h. absurd h }) (omega arith)
 
+  meets-start : (n q : ℕ) (found : List ℕ) → startOf t v ≡ q → tracedBack t v (suc n) q found ≡ meets found
+  unfolding tracedBack
+  meets-start n q found e = rw (eq-eqb q (startOf t v) (sym e))
+
+  -- a value other than the start that no action in force sets: the trace breaks off there
+  pub breaks-off : (n q : ℕ) (found : List ℕ) → q ≢ startOf t v → Unset t v q → tracedBack t v (suc n) q found ≡ breaks q
+  unfolding tracedBack
+  breaks-off n q found off nobody = rw (ne-eqb q (startOf t v) off) (by-setter (setter-tells (t .situation) 0 (t .actions) v q))
+    where
+      by-setter :
+          {o : Option ℕ} → Setter (t .situation) 0 (t .actions) v q o → backBy o q (λ j. tracedBack t v n (preOf t j) (j ∷ found)) ≡ breaks q
+      by-setter (set-by-none no-one) = refl
+      by-setter (set-by b) = absurd (nobody (b .at) (setter-usable (b .sets)) (b .sets .var) (b .sets .post))
+
   -- ---- a walk is found
 
   module _ (lawful : Lawful t) where
-    way-traced : (n q : ℕ) (front found : List ℕ) → Way t v q front → length front < n → tracedBack t v n q found ≡ meets (front ++ found)
+    -- a value other than the start that an action in force sets: the trace goes on from what the action leaves
+    pub goes-back :
+        (n i : ℕ) (found : List ℕ) → Usable t i → varOf t i ≡ v → postOf t i ≢ startOf t v
+        → tracedBack t v (suc n) (postOf t i) found ≡ tracedBack t v n (preOf t i) (i ∷ found)
     unfolding tracedBack
+    goes-back n i found usable var off =
+        rw (ne-eqb (postOf t i) (startOf t v) off) (by-setter (setter-tells (t .situation) 0 (t .actions) v (postOf t i)))
+      where
+        by-setter :
+            {o : Option ℕ} → Setter (t .situation) 0 (t .actions) v (postOf t i) o
+            → backBy o (postOf t i) (λ j. tracedBack t v n (preOf t j) (j ∷ found)) ≡ tracedBack t v n (preOf t i) (i ∷ found)
+        by-setter (set-by-none no-one) = absurd (no-one i (usable-sets usable var refl))
+        by-setter (set-by {i = j} b) =
+            let e : b .at ≡ i = one-setter lawful (b .at) i (setter-usable (b .sets)) usable (b .sets .var ∙ sym var) (b .sets .post) in
+            let f : j ≡ i = omega (arith, b .is) in
+            rw f
+
+    pub way-traced : (n q : ℕ) (front found : List ℕ) → Way t v q front → length front < n → tracedBack t v n q found ≡ meets (front ++ found)
     way-traced zero q front found way h = absurd (omega arith)
     way-traced (suc n) q front found way h = go (way-last way) (way-traced n)
       where
         go : ((front ≡ []) × (startOf t v ≡ q)) ⊎ Shorter t v q front
             → ((p : ℕ) (f g : List ℕ) → Way t v p f → length f < n → tracedBack t v n p g ≡ meets (f ++ g))
-            → pick (eqb q (startOf t v)) (meets found) (backBy (setterOf t v q) q (λ i. tracedBack t v n (preOf t i) (i ∷ found))) ≡ meets (front ++ found)
-        go (inl (n, e)) on = rw (eq-eqb q (startOf t v) (sym e), n)
-        go (inr s) on = rw (ne-eqb q (startOf t v) (s .off)) (back (setter-tells (t .situation) 0 (t .actions) v q))
-          where
-            before-last : tracedBack t v n (preOf t (s .last)) (s .last ∷ found) ≡ meets (front ++ found)
-            before-last =
-                on (preOf t (s .last)) (s .front) (s .last ∷ found) (s .way) (omega (arith, s .long))
-                ∙ ap meets (sym (ap (λ (f : List ℕ). f ++ found) (s .is) ∙ append-assoc (s .front) (s .last ∷ []) found))
-
-            back :
-                {o : Option ℕ} → Setter (t .situation) 0 (t .actions) v q o
-                → backBy o q (λ i. tracedBack t v n (preOf t i) (i ∷ found)) ≡ meets (front ++ found)
-            back (set-by-none no-one) = absurd (no-one (s .last) (usable-sets (s .usable) (s .var) (s .post)))
-            back (set-by {i = i} b) =
-                let e : b .at ≡ s .last = one-setter lawful (b .at) (s .last) (setter-usable (b .sets)) (s .usable) (b .sets .var ∙ sym (s .var)) (b .sets .post ∙ sym (s .post)) in
-                let f : i ≡ s .last = omega (arith, b .is) in
-                rw f before-last
+            → tracedBack t v (suc n) q found ≡ meets (front ++ found)
+        go (inl (e, f)) on = rw e (meets-start n q found f)
+        go (inr s) on =
+            rw (← s .post) (goes-back n (s .last) found (s .usable) (s .var) (rw (s .post) (s .off)))
+            ∙ on (preOf t (s .last)) (s .front) (s .last ∷ found) (s .way) (omega (arith, s .long))
+            ∙ ap meets (sym (ap (λ (f : List ℕ). f ++ found) (s .is) ∙ append-assoc (s .front) (s .last ∷ []) found))
 
     walk-short : (w : List ℕ) → Walk t v w → length w ≤ length (t .actions)
     walk-short w walk =

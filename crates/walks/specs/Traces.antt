@@ -9,6 +9,7 @@ use Rattle.plain.specs.Choose.{pick}
 use Rattle.study.specs.Study.{Action, Study}
 use Rattle.study.specs.Reading.{setsTo}
 use Rattle.walks.specs.Walks.{preOf, startOf, goalOf}
+use Rattle.walks.specs.Breaks.{cameRound}
 
 -- the action in force that sets a variable to a value, if there is one, where the first is number k
 unfoldable pub setterFrom : ℕ → ℕ → List Action → ℕ → ℕ → Option ℕ
@@ -38,6 +39,15 @@ tracedBack t v (suc n) q found =
 -- no more actions may be passed than there are, and the start is looked for once more
 unfoldable pub trace : Study → ℕ → Trace
 trace t v = tracedBack t v (suc (length (t .actions))) (goalOf t v) []
+
+-- where it breaks off, in document 02's numbers
+abbrev pub breakIn : Trace → ℕ
+breakIn (meets w) = 0
+breakIn (breaks q) = q
+breakIn comes-round = cameRound
+
+unfoldable pub breakOf : Study → ℕ → ℕ
+breakOf t v = breakIn (trace t v)
 
 -- the walk, if there is one
 abbrev pub walkIn : Trace → Option (List ℕ)

@@ -55,7 +55,7 @@ unfolding
     Reference.planned Reference.leftOut Reference.chosen Straights.straightPlans
     Barring.barred Barring.offAction Barring.offVariable Barring.lowestWithout Barring.wantsOff
     Meeting.onWalk Meeting.valueOn Meeting.comesBefore Meeting.wants Meeting.walkActions
-    Traces.walkOf Traces.trace Traces.tracedBack Traces.setterFrom
+    Traces.walkOf Traces.breakOf Traces.trace Traces.tracedBack Traces.setterFrom
     Searching.lowest Searching.least Searching.better Searching.passing
     Choosing.ready Choosing.greedily Listing.orders Listing.startingWith
     Tests.among Tests.every Tests.any

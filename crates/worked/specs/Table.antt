@@ -1,4 +1,4 @@
--- Document 01's worked cases that are marked *, as one table: each row is a call with what it is lent, the three numbers and the lent bytes afterwards.
+-- Document 01's worked cases that are marked *, 9 and 14 as document 02 has them, as one table: each row is a call with what it is lent, the three numbers and the lent bytes afterwards.
 -- Assumes nothing.
 use Prim.Native.Nat.{ℕ}
 use mathlib.Core.Path.{_≡_}
@@ -123,7 +123,7 @@ table =
     ∷ answers (plan (goal 0 2 1 porter) up) lent (three 11 2 0) lent
     ∷ answers (plan (goal 1 2 0 porter) up) lent (three 11 2 2) lent
     -- 9
-    ∷ answers (plan (start 0 2 0 (goal 1 0 1 porter)) up) lent (refusal 10 1) lent
+    ∷ answers (plan (start 0 2 0 (goal 1 0 1 porter)) up) lent (three 10 1 0) lent
     -- 12
     ∷ answers (run porter (0 ∷ 1 ∷ 3 ∷ 2 ∷ [])) lent (done 3 0) (1 ∷ 2 ∷ 1 ∷ 9 ∷ 9 ∷ 9 ∷ [])
     ∷ answers (run porter (1 ∷ 3 ∷ [])) lent (three 15 1 0) lent
@@ -135,7 +135,7 @@ table =
     ∷ answers (plan (pairAndFree 1) (0 ∷ 1 ∷ 2 ∷ [])) lent (refusal 12 1) lent
     ∷ answers (plan (pairAndFree 0) (0 ∷ 1 ∷ 2 ∷ [])) lent (refusal 12 1) lent
     -- 14
-    ∷ answers (plan round (0 ∷ 1 ∷ [])) lent (refusal 10 0) lent
+    ∷ answers (plan round (0 ∷ 1 ∷ [])) lent (three 10 0 255) lent
     ∷ []
 
 -- row k, counted from 0

@@ -15,7 +15,7 @@ use Rattle.tracing.specs.Facts.{MovesIn}
 use Rattle.tracing.specs.Steps.{SetterIs}
 use Rattle.tracing.specs.declared.Named.the-variants.{Is}
 use Rattle.tracing.proofs.Ranges.{few-actions, told-pre, told-pre-small}
-use Rattle.tracing.proofs.TraceEnds.{at-start, no-more-left, none-sets, goes-back}
+use Rattle.tracing.proofs.TraceEnds.{told-met, told-breaks, at-start, no-more-left, none-sets, goes-back}
 use Rattle.tracing.proofs.trace.Reads as trace
 use Rattle.tracing.proofs.trace.Kinds as trace-kinds
 use Rattle.tracing.proofs.+trace.Lts-trace as trace-lts
@@ -93,14 +93,15 @@ module _ (t : ℕ) where
       let s = c .before in
       let p = s .pre .1 in (
         (p .3, λ d. omega arith),
-        λ study moves e. at-start study _ _ _ _ _ (omega (arith, p .2)) (e ∙ sym (c .if1 .taken)),
+        λ study moves e. rw (told-met (s .args .passed) (omega (arith, p .2))) (at-start study _ _ _ _ _ (e ∙ sym (c .if1 .taken))),
       )
 
   trace-returns-2 : trace-lts.Need-returns-2 (called t) (trace-at t) trace.Post
-  trace-returns-2 c = (
-    (c .before .before .pre .1 .3, λ d. absurd (d refl)),
-    λ study moves e. no-more-left study _ _ _ _ _ (λ z. c .before .if1 .left (z ∙ e)) (c .if2 .taken),
-  )
+  trace-returns-2 c =
+      let s = c .before .before in (
+        (s .pre .1 .3, λ d. absurd (omega arith)),
+        λ study moves e. no-more-left study _ _ _ _ _ (c .if2 .taken),
+      )
 
   trace-setter-requires : trace-lts.Need-setter-requires (called t) (trace-at t) trace.Post
   trace-setter-requires c κs =
@@ -116,11 +117,15 @@ module _ (t : ℕ) where
   trace-returns-3 : trace-lts.Need-returns-3 (called t) (trace-at t) trace.Post
   trace-returns-3 c =
       let s = c .before .before .before .before .before in (
-        (s .pre .1 .3, λ d. absurd (d refl)),
+        (s .pre .1 .3, λ d. absurd (omega arith)),
         λ study moves e.
-            none-sets study _ _ _ _ _ (λ z. c .before .before .before .before .if1 .left (z ∙ e))
-            (rw (c .enum-told .given .1) at (c .before .before .setter .ensures study moves)),
+            rw (told-breaks (s .args .q) (s .pre .1 .1))
+            (none-sets study _ _ _ _ _ (λ z. c .before .before .before .before .if1 .left (z ∙ e))
+            (rw (c .enum-told .given .1) at (c .before .before .setter .ensures study moves))),
       )
+
+  trace-add-result : trace-lts.Need-add-result (called t) (trace-at t) trace.Post
+  trace-add-result c = omega (arith, c .before .before .before .before .before .pre .1 .1)
 
   trace-action-at-requires : trace-lts.Need-action-at-requires (called t) (trace-at t) trace.Post
   trace-action-at-requires c κs = named-low (c .before)
@@ -183,6 +188,7 @@ pub +trace-spec : {M : Type 1} → statement M
     (trace-setter-requires t)
     (trace-enum-known-found t)
     (trace-enum-told t)
+    (trace-add-result t)
     (trace-returns-3 t)
     (trace-action-at-requires t)
     (trace-add-steps t)

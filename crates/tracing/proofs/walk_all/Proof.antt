@@ -1,6 +1,6 @@
 -- `tracing::walk_all` meets its contract: each turn enters one more walk, and keeps `Underway`.
 -- Assumes nothing.
-use mathlib.Core.Path.{_≡_}
+use mathlib.Core.Path.{_≡_, sym, _∙_}
 use Prim.Native.Nat.{_+_, _-_, _*_, _≤_, _<_}
 use native.Mathlib.Omega.{arith}
 use lib.ListN.{getD, length-set}
@@ -9,7 +9,7 @@ use borrow.Author.Needs.{needs}
 use Rattle.tables.specs.Rows.{varColumn, preColumn, postColumn, outColumn, startColumn, goalColumn}
 use Rattle.tracing.proofs.Ranges.{few-tasks, told-goal-small}
 use Rattle.tracing.proofs.WalksEntered.{none-entered, all-entered}
-use Rattle.tracing.proofs.Rounds.{Underway, goes-on, stops}
+use Rattle.tracing.proofs.Rounds.{Underway, goes-on, stops-broken, stops-round}
 use Rattle.tracing.proofs.walk_all.Statement.{statement}
 use Rattle.tracing.proofs.walk_all.Tie as tie
 
@@ -70,45 +70,77 @@ trace-requires c κs =
     let (l, (t, moves, count, starts, goals)) = i .before .before .pre in
     (low i, rw (a .variable-at .ensures .goal) (goal-low i), omega arith, simp length-set (i .before .loop .inv .sized), (t, moves))
 
-returns : tie.Need-returns Inv-loop μ-loop
-returns c =
-    let a = c .before in
-    let w = a .before .before in
-    let row = w .before .variable-at .ensures in
-    let i = w .before .before in (
-      a .trace .ensures .0 .0,
-      λ t moves count starts goals empty.
-          stops (i .before .loop .inv) (i .loop-test .taken) _ (rw (w .wide .ensures .0, row .goal, row .start) at (a .trace .ensures)) (c .if1 .taken) t
-          (record { moves = moves; count = count; tells-start = starts; tells-goal = goals; empty = empty }),
-    )
+-- the turn that a trace is made in
+abbrev turn : tie.After-trace Inv-loop μ-loop → tie.In-loop Inv-loop μ-loop
+turn a = a .before .before .before .before
+
+outcome-requires : tie.Need-outcome-requires Inv-loop μ-loop
+outcome-requires c κs = search needs
+
+enum-known-traced : tie.Need-enum-known-traced Inv-loop μ-loop
+enum-known-traced c = search needs
 
 wide-requires-2 : tie.Need-wide-requires-2 Inv-loop μ-loop
 wide-requires-2 c κs = search needs
 
 add-total : tie.Need-add-total Inv-loop μ-loop
 add-total c =
-    let i = c .before .before .before .before .before .before in
+    let i = turn (c .before .before .before .before .before) in
     omega (arith, c .wide2 .ensures .1, i .before .loop .inv .few, i .loop-test .taken, few (i .before .before))
 
-add-v : tie.Need-add-v Inv-loop μ-loop
-add-v c = omega (arith, low (c .before .before .before .before .before .before))
+enum-known-traced-2 : tie.Need-enum-known-traced-2 Inv-loop μ-loop
+enum-known-traced-2 c = search needs
 
-loop-less : tie.Need-loop-less Inv-loop μ-loop
-loop-less c =
-    let i = c .before .before .before .before .before .before in
-    omega (arith, i .loop-test .taken)
-
-loop-again : tie.Need-loop-again Inv-loop μ-loop
-loop-again c =
-    let a = c .before .before in
+returns : tie.Need-returns Inv-loop μ-loop
+returns c =
+    let o = c .before .before .before in
+    let a = o .before in
     let w = a .before .before in
     let row = w .before .variable-at .ensures in
-    let i = w .before .before in
-    rw (c .wide2 .ensures .0)
-    (goes-on (i .before .loop .inv) (i .loop-test .taken) _ (rw (w .wide .ensures .0, row .goal, row .start) at (a .trace .ensures)) (c .before .if1 .left))
+    let i = turn a in (
+      a .trace .ensures .0 .0,
+      λ t moves count starts goals empty.
+          stops-broken (i .before .loop .inv) (i .loop-test .taken) _ (rw (w .wide .ensures .0, row .goal, row .start) at (a .trace .ensures))
+          (sym (o .outcome .ensures) ∙ c .before .traced2 .given .1) t
+          (record { moves = moves; count = count; tells-start = starts; tells-goal = goals; empty = empty }),
+    )
+
+enum-told : tie.Need-enum-told Inv-loop μ-loop
+enum-told c = search needs
 
 returns-2 : tie.Need-returns-2 Inv-loop μ-loop
 returns-2 c =
+    let o = c .before .before in
+    let a = o .before in
+    let w = a .before .before in
+    let row = w .before .variable-at .ensures in
+    let i = turn a in (
+      a .trace .ensures .0 .0,
+      λ t moves count starts goals empty.
+          stops-round (i .before .loop .inv) (i .loop-test .taken) _ (rw (w .wide .ensures .0, row .goal, row .start) at (a .trace .ensures))
+          (sym (o .outcome .ensures) ∙ c .enum-told .given .1) t
+          (record { moves = moves; count = count; tells-start = starts; tells-goal = goals; empty = empty }),
+    )
+
+add-v : tie.Need-add-v Inv-loop μ-loop
+add-v c = omega (arith, low (turn (c .before .before .before .before .before)))
+
+loop-less : tie.Need-loop-less Inv-loop μ-loop
+loop-less c = omega (arith, turn (c .before .before .before .before .before) .loop-test .taken)
+
+loop-again : tie.Need-loop-again Inv-loop μ-loop
+loop-again c =
+    let o = c .before .before .before .before in
+    let a = o .before in
+    let w = a .before .before in
+    let row = w .before .variable-at .ensures in
+    let i = turn a in
+    rw (c .wide2 .ensures .0)
+    (goes-on (i .before .loop .inv) (i .loop-test .taken) _ (rw (w .wide .ensures .0, row .goal, row .start) at (a .trace .ensures))
+    (sym (o .outcome .ensures) ∙ c .before .before .traced .given .1))
+
+returns-3 : tie.Need-returns-3 Inv-loop μ-loop
+returns-3 c =
     let u = c .before .loop .inv in
     let e : c .before .loop .v ≡ c .before .before .args .n = omega (arith, u .inside, c .loop-test .left) in (
       u .sized,
@@ -131,10 +163,15 @@ walk-all-spec =
     mul-steps-2
     element-write-steps
     trace-requires
-    returns
+    outcome-requires
+    enum-known-traced
     wide-requires-2
     add-total
+    enum-known-traced-2
+    returns
+    enum-told
+    returns-2
     add-v
     loop-less
     loop-again
-    returns-2)
+    returns-3)
