@@ -1,4 +1,4 @@
--- Lists with one more at the end, and with one changed: what holds of each and of their parts.
+-- Lists with one more at the end, and with one changed: what holds of each and of their parts; tables of zeros.
 -- Assumes nothing.
 use mathlib.Core.Path.{_≡_, refl, ap}
 use mathlib.Core.Logic.{_≢_}
@@ -6,7 +6,7 @@ use mathlib.Core.List.{List, [], _∷_, _++_}
 use Prim.Native.Nat.{ℕ, zero, suc, _+_, _<_}
 use native.Mathlib.Nat.{zero-add, suc-add}
 use native.Mathlib.Omega.{arith}
-use lib.ListN.{length, getD, set, take, drop, length-append}
+use lib.ListN.{length, getD, set, take, drop, length-append, replicate}
 
 module _ {A : Type 0} where
   pub length-more : (l : List A) (x : A) → length (l ++ (x ∷ [])) ≡ suc (length l)
@@ -64,3 +64,9 @@ module _ {A : Type 0} where
   one-set P (y ∷ l) zero x d p q (suc i) f = f (omega arith)
   one-set P (y ∷ l) (suc k) x d p q zero f = f (omega arith)
   one-set P (y ∷ l) (suc k) x d p q (suc i) f = one-set P l k x d p q i (λ o. f (omega arith))
+
+-- a table of zeros holds 0 wherever one looks
+pub all-zeros : (n j : ℕ) → _≡_ {A = ℕ} (getD (replicate n 0) j 0) 0
+all-zeros zero j = refl
+all-zeros (suc n) zero = refl
+all-zeros (suc n) (suc j) = all-zeros n j

@@ -1,11 +1,12 @@
 -- Few actions: what comes directly before each by rank is what comes before it, so what is taken by rank is taken greedily.
 -- Assumes nothing.
+use mathlib.Core.Path.{_≡_}
 use mathlib.Core.List.{List}
 use Prim.Native.Nat.{ℕ, _+_, _≤_, _<_}
 use native.Mathlib.Omega.{arith}
 use lib.ListN.{length, getD, take, drop}
 use lib.Seq.{getD-take, getD-drop}
-use Rattle.ranks.specs.Ranks.{Turned}
+use Rattle.ranks.specs.Ranks.{RankList, Turned}
 use Rattle.ranks.proofs.Entries.{entry-of-rank-list-below}
 use Rattle.study.specs.Study.{Study}
 use Rattle.tables.specs.Tables.{ActionTables}
@@ -16,8 +17,8 @@ use Rattle.walks.proofs.Leads.{on-walk-usable}
 use Rattle.ordering.specs.Ordering.{Ordered, Orderable}
 use Rattle.hanging.specs.Hanging.{beforeIn, hungIn, InWord, DirectlyBefore, NoneHung, TakenByName}
 use Rattle.taking.specs.Taking.{TakenGreedily}
-use Rattle.stages.specs.Whole.{Walking}
-use Rattle.stages.proofs.Stages.{walking-wishes, walking-rowed, walking-ranks}
+use Rattle.stages.specs.Whole.{Walking, Orderly}
+use Rattle.stages.proofs.Stages.{walking-wishes, walking-rowed, own-length}
 
 module _
     {file ranks : List ℕ} {n total : ℕ} {acts : ActionTables} {starts steps : List ℕ} {t : Study}
@@ -31,37 +32,43 @@ module _
       rowed = walking-rowed walking;
     }
 
-    -- a rank is less than there are actions
-    pub rank-below : (i : ℕ) → i < length ranks → getD ranks i 0 < length ranks
-    rank-below = entry-of-rank-list-below (walking-ranks walking)
+-- a rank is less than there are actions
+pub rank-below : {ranks : List ℕ} {a : ℕ} → RankList a ranks → (i : ℕ) → i < length ranks → getD ranks i 0 < length ranks
+rank-below list = entry-of-rank-list-below (own-length list)
 
-    module _ (few : length ranks ≤ 64) {members : ℕ} {words : List ℕ} {names : List ℕ} (ordered : Ordered t ranks members words) (turned : Turned ranks names) where
-      walk-rank : {i : ℕ} → OnAWalk t i → getD ranks i 0 < 64
-      walk-rank {i} on = omega (arith, rank-below i (omega (arith, on-walk-usable on, walking .actions .count)))
+module _
+    {t : Study} {total : ℕ} {ranks : List ℕ} (orderly : Orderly total t) (list : RankList (length (t .actions)) ranks) (few : length ranks ≤ 64)
+    {members : ℕ} {words names : List ℕ} (ordered : Ordered t ranks members words) (turned : Turned ranks names)
+  where
+    as-many : length ranks ≡ length (t .actions)
+    as-many = list .an-entry-for-each
 
-      pub none-hung : NoneHung (hungIn words)
-      none-hung x y h =
-          let (j, (there, is)) = ordered .named (64 + x) y (rw (getD-drop 64 words x 0) at h) in
-          omega (arith, rank-below j (omega (arith, walking .actions .count)))
+    walk-rank : {i : ℕ} → OnAWalk t i → getD ranks i 0 < 64
+    walk-rank {i} on = omega (arith, rank-below list i (omega (arith, on-walk-usable on, as-many)))
 
-      by-rank : Ranked (OnAWalk t) (InWord members) (ComesBefore t) (DirectlyBefore (beforeIn words)) (λ i. getD ranks i 0) (λ r. getD names r 0)
-      by-rank = record {
-        there = ordered .member;
-        back = ordered .only-members;
-        named = λ x m. turned .inverse x (omega (arith, on-walk-usable m, walking .actions .count)) .1;
-        comes = λ x y m n b. rw (getD-take 64 words (getD ranks y 0) 0 (walk-rank n)) (ordered .complete x y m n b);
-        came = λ x y m n b. ordered .sound x y m n (rw (getD-take 64 words (getD ranks y 0) 0 (walk-rank n)) at b);
-      }
+    pub none-hung : NoneHung (hungIn words)
+    none-hung x y h =
+        let (j, (there, is)) = ordered .named (64 + x) y (rw (getD-drop 64 words x 0) at h) in
+        omega (arith, rank-below list j (omega (arith, as-many)))
 
-      pub members-counted : Counted (InWord members) total
-      members-counted =
-          counted-renamed by-rank record {
-            list = walking .list;
-            once = walking .members .once;
-            all = walking .members .all;
-            only = walking .members .only;
-            long = walking .counted;
-          }
+    by-rank : Ranked (OnAWalk t) (InWord members) (ComesBefore t) (DirectlyBefore (beforeIn words)) (λ i. getD ranks i 0) (λ r. getD names r 0)
+    by-rank = record {
+      there = ordered .member;
+      back = ordered .only-members;
+      named = λ x m. turned .inverse x (omega (arith, on-walk-usable m, as-many)) .1;
+      comes = λ x y m n b. rw (getD-take 64 words (getD ranks y 0) 0 (walk-rank n)) (ordered .complete x y m n b);
+      came = λ x y m n b. ordered .sound x y m n (rw (getD-take 64 words (getD ranks y 0) 0 (walk-rank n)) at b);
+    }
 
-      pub taken-greedily : {k : ℕ} {room : List ℕ} → TakenByName members (beforeIn words) names k room → TakenGreedily t ranks (take k (drop 256 room))
-      taken-greedily by-name = rw (by-name .named) (greedy-renamed by-rank (by-name .list) (by-name .greedy))
+    pub members-counted : Counted (InWord members) total
+    members-counted =
+        counted-renamed by-rank record {
+          list = orderly .list;
+          once = orderly .members .once;
+          all = orderly .members .all;
+          only = orderly .members .only;
+          long = orderly .counted;
+        }
+
+    pub taken-greedily : {k : ℕ} {room : List ℕ} → TakenByName members (beforeIn words) names k room → TakenGreedily t ranks (take k (drop 256 room))
+    taken-greedily by-name = rw (by-name .named) (greedy-renamed by-rank (by-name .list) (by-name .greedy))

@@ -1,38 +1,56 @@
 -- From one stage to the next: what is known of the study in the tables that each function is lent.
 -- Assumes nothing.
-use mathlib.Core.Path.{_≡_, refl, _∙_}
+use mathlib.Core.Path.{_≡_, _∙_}
 use mathlib.Core.List.{List}
-use Prim.Native.Nat.{ℕ, zero, suc, _+_, _*_, _≤_, _<_}
+use Prim.Native.Nat.{ℕ, _+_, _*_, _≤_, _<_}
 use native.Mathlib.Omega.{arith}
-use lib.ListN.{length, getD, take, drop, replicate}
+use lib.ListN.{length, take, drop, replicate}
+use Rattle.plain.proofs.Lists.{all-zeros}
 use Rattle.ranking.specs.Ranking.{tested}
 use Rattle.ranking.specs.declared.Tested.the-variants.{Fine}
-use Rattle.ranking.proofs.Fine.{fine-is-rank-list}
+use Rattle.ranking.proofs.Fine.{fine-is-rank-list, rank-list-is-fine}
 use Rattle.ranks.specs.Ranks.{RankList, Apart}
 use Rattle.ranks.proofs.Placed.{rank-list-apart}
 use Rattle.study.specs.Study.{Study}
 use Rattle.tables.specs.Rows.{Begins}
-use Rattle.tables.specs.Tables.{ActionTables}
+use Rattle.lawful.specs.Lawful.{Lawful}
+use Rattle.tables.specs.Tables.{ActionTables, HoldsActions}
 use Rattle.planning.specs.Refusals.{offWalk}
 use Rattle.planning.specs.Planning.{Plans, LowestOff, off-walk}
 use Rattle.walks.specs.Walks.{Walks, Met, startOf, goalOf}
-use Rattle.tracing.specs.Facts.{Tells, Moves, Wishes}
+use Rattle.tracing.specs.Facts.{Tells, Moves, Wishes, Deeds}
 use Rattle.tracing.specs.Steps.{EmptyRow, Rowed, Members}
 use Rattle.tracing.proofs.Ranges.{few-tasks}
 use Rattle.wanting.specs.Wanting.{Counts}
 use Rattle.taking.specs.Taking.{Prepared, TakenGreedily}
 use Rattle.handing.specs.Handing.{Taken}
 use Rattle.handing.proofs.Outcomes.{few-in-all}
-use Rattle.stages.specs.Whole.{Known, Given, Walking}
+use Rattle.stages.specs.Whole.{Known, Given, Walking, Orderly, WantsCounted}
 
--- a table of zeros holds 0 wherever one looks
-pub all-zeros : (n j : ℕ) → _≡_ {A = ℕ} (getD (replicate n 0) j 0) 0
-all-zeros zero j = refl
-all-zeros (suc n) zero = refl
-all-zeros (suc n) (suc j) = all-zeros n j
-
-rowed-walks : {t : Study} {n : ℕ} {steps : List ℕ} → n ≡ length (t .tasks) → Rowed t n steps → Walks t
+pub rowed-walks : {t : Study} {n : ℕ} {steps : List ℕ} → n ≡ length (t .tasks) → Rowed t n steps → Walks t
 rowed-walks e rowed v h = let r = rowed v (rw e h) in (r .0, r .1 .0)
+
+pub held-wishes :
+    {file : List ℕ} {a : ℕ} {acts : ActionTables} {t : Study} → Lawful t → HoldsActions file (t .situation) a acts (t .actions)
+    → Wishes file a (acts .vars) (acts .pres) (acts .places) (acts .manys) t
+held-wishes lawful held = record {
+  lawful = lawful;
+  actions = held .count;
+  tells-var = λ i h. held .action i h .var;
+  tells-pre = λ i h. held .action i h .pre;
+  tells-conditions = λ i h. held .action i h .conditions;
+}
+
+pub held-deeds :
+    {file : List ℕ} {a : ℕ} {acts : ActionTables} {t : Study} → Lawful t → HoldsActions file (t .situation) a acts (t .actions)
+    → Deeds file a (acts .vars) (acts .posts) (acts .places) (acts .manys) t
+held-deeds lawful held = record {
+  lawful = lawful;
+  actions = held .count;
+  tells-var = λ i h. held .action i h .var;
+  tells-post = λ i h. held .action i h .post;
+  tells-conditions = λ i h. held .action i h .conditions;
+}
 
 -- with a rank list, what is known is given
 pub known-given :
@@ -109,14 +127,8 @@ module _
     {file ranks : List ℕ} {n total : ℕ} {acts : ActionTables} {starts steps : List ℕ} {t : Study}
     (walking : Walking file ranks n total acts starts steps t)
   where
-    pub walking-ranks : RankList (length ranks) ranks
-    walking-ranks = rw (← walking .actions .count) at (fine-is-rank-list (walking .ranked))
-
-    pub ranks-apart : Apart ranks
-    ranks-apart = rank-list-apart walking-ranks
-
-    pub few-walking : n ≤ 32
-    few-walking = omega (arith, walking .variables, few-tasks (walking .lawful))
+    pub walking-ranks : RankList (length (t .actions)) ranks
+    walking-ranks = fine-is-rank-list (walking .ranked)
 
     pub all-few : total ≤ 256
     all-few = omega (arith, few-in-all (walking .lawful) (walking .members), walking .counted)
@@ -125,49 +137,81 @@ module _
     walking-rowed = rw (← walking .variables) (walking .rowed)
 
     pub walking-wishes : Wishes file (length ranks) (acts .vars) (acts .pres) (acts .places) (acts .manys) t
-    walking-wishes = record {
-      lawful = walking .lawful;
-      actions = walking .actions .count;
-      tells-var = λ i h. walking .actions .action i h .var;
-      tells-pre = λ i h. walking .actions .action i h .pre;
-      tells-conditions = λ i h. walking .actions .action i h .conditions;
-    }
+    walking-wishes = held-wishes (walking .lawful) (walking .actions)
 
     pub walking-off : {i u : ℕ} {before : List ℕ} → LowestOff t i u → Plans t ranks before (offWalk i u) before
     walking-off off = off-walk (walking .ranked) (rowed-walks (walking .variables) (walking .rowed)) off
 
-    pub walking-taken : Met t → (k : ℕ) (room : List ℕ) → TakenGreedily t ranks (take k (drop 256 room)) → Taken t ranks total k room
-    walking-taken met k room greedy = record {
+    pub walking-orderly : Met t → Orderly total t
+    walking-orderly met = record {
       lawful = walking .lawful;
-      ranked = walking .ranked;
       walks = rowed-walks (walking .variables) (walking .rowed);
       met = met;
       list = walking .list;
       members = walking .members;
       counted = walking .counted;
-      greedy = greedy;
     }
 
-    -- many actions: the conditions are counted, and each variable is at its start
-    pub walking-prepared :
-        (wants state : List ℕ) → Met t → ((list : List ℕ) → Members t list → Counts t list wants) → Begins n starts state
-        → Prepared file n (length ranks) total (acts .vars) (acts .posts) (acts .places) (acts .manys) steps wants state t
-    walking-prepared wants state met counts begins =
-        record {
-          deeds =
-              record {
-                lawful = walking .lawful;
-                actions = walking .actions .count;
-                tells-var = λ i h. walking .actions .action i h .var;
-                tells-post = λ i h. walking .actions .action i h .post;
-                tells-conditions = λ i h. walking .actions .action i h .conditions;
-              };
-          variables = walking .variables;
-          rowed = walking .rowed;
-          met = met;
-          list = walking .list;
-          members = walking .members;
-          counted = walking .counted;
-          wanted = counts (walking .list) (walking .members);
-          at-start = λ v h. begins .start v h ∙ walking .tells-starts v h;
-        }
+    -- many actions: the conditions are counted
+    pub walking-counted :
+        (wants : List ℕ) → Met t → ((list : List ℕ) → Members t list → Counts t list wants)
+        → WantsCounted file n (length ranks) total (acts .vars) (acts .posts) (acts .places) (acts .manys) starts steps wants t
+    walking-counted wants met counts = record {
+      orderly = walking-orderly met;
+      variables = walking .variables;
+      deeds = held-deeds (walking .lawful) (walking .actions);
+      tells-starts = walking .tells-starts;
+      rowed = walking .rowed;
+      wanted = counts;
+    }
+
+-- ---- taking
+
+module _ {a : ℕ} {ranks : List ℕ} (list : RankList a ranks) where
+  pub own-length : RankList (length ranks) ranks
+  own-length = rw (list .an-entry-for-each) list
+
+  pub list-apart : Apart ranks
+  list-apart = rank-list-apart own-length
+
+module _ {total : ℕ} {t : Study} (orderly : Orderly total t) where
+  pub orderly-few : total ≤ 256
+  orderly-few = omega (arith, few-in-all (orderly .lawful) (orderly .members), orderly .counted)
+
+  pub few-ranks : {ranks : List ℕ} → RankList (length (t .actions)) ranks → length ranks ≤ 256
+  few-ranks list = omega (arith, list .an-entry-for-each, orderly .lawful .few-actions)
+
+  pub orderly-taken :
+      {ranks : List ℕ} → RankList (length (t .actions)) ranks → (k : ℕ) (room : List ℕ) → TakenGreedily t ranks (take k (drop 256 room))
+      → Taken t ranks total k room
+  orderly-taken list k room greedy = record {
+    lawful = orderly .lawful;
+    ranked = rank-list-is-fine list;
+    walks = orderly .walks;
+    met = orderly .met;
+    list = orderly .list;
+    members = orderly .members;
+    counted = orderly .counted;
+    greedy = greedy;
+  }
+
+module _
+    {file : List ℕ} {n a total : ℕ} {vars posts places manys starts steps wants : List ℕ} {t : Study}
+    (counted : WantsCounted file n a total vars posts places manys starts steps wants t)
+  where
+    pub counted-variables : n ≤ 32
+    counted-variables = omega (arith, counted .variables, few-tasks (counted .orderly .lawful))
+
+    -- each variable is at its start
+    pub counted-prepared : (state : List ℕ) → Begins n starts state → Prepared file n a total vars posts places manys steps wants state t
+    counted-prepared state begins = record {
+      deeds = counted .deeds;
+      variables = counted .variables;
+      rowed = counted .rowed;
+      met = counted .orderly .met;
+      list = counted .orderly .list;
+      members = counted .orderly .members;
+      counted = counted .orderly .counted;
+      wanted = counted .wanted (counted .orderly .list) (counted .orderly .members);
+      at-start = λ v h. begins .start v h ∙ counted .tells-starts v h;
+    }

@@ -2,10 +2,13 @@
 ghost use mathlib.Core.Path.{_≡_};
 ghost use Prim.Native.Nat.{ℕ, _≤_};
 ghost use lib.ListN.{length};
+ghost use Rattle.ranks.specs.Ranks.{RankList};
 ghost use Rattle.study.specs.Study.{Study};
 ghost use Rattle.planning.specs.Planning.{Plans};
 ghost use Rattle.draw.specs.Draw.{drawn};
-ghost use Rattle.stages.specs.Whole.{KnownIn, GivenIn, WalkingIn};
+ghost use Rattle.ordering.specs.Ordering.{Ordered};
+ghost use Rattle.handing.specs.Handing.{Taken};
+ghost use Rattle.stages.specs.Whole.{KnownIn, GivenIn, WalkingIn, Orderly, WantsCountedIn};
 use answer::Answer;
 use ordering::Found;
 use tracing::Walked;
@@ -14,7 +17,34 @@ use wanting::Met;
 // Up to so many actions a set of ranks is one word.
 const FEW: usize = 64;
 
-// Every variable has a walk, and there are many actions: a variable waits for another.
+// The conditions are counted, and there are many actions: a variable waits for another. The counts are used up.
+pub fn take_many(
+    file: &[u8],
+    ranks: &[u8],
+    n: usize,
+    total: usize,
+    acts: &[[u8; 6]; 256],
+    vars: &[[u8; 3]; 32],
+    steps: &[u16; 512],
+    wants: &mut [u16; 512],
+    room: &mut [u8; 512],
+) -> usize
+    requires { ⌜ (length (now wants) ≡ 512) × (length (now room) ≡ 512)
+        × ((t : Study) × RankList (length (t .actions)) (now ranks)
+        × WantsCountedIn (now file) n (length (now ranks)) total (now acts) (now vars) (now steps) (now wants) t) ⌝ }
+    ensures { λ r. ⌜ (r ≤ total) × (length (now (room .exit)) ≡ 512) ⌝ }
+    ensures { λ r. ⌜ ((t : Study)
+        → RankList (length (t .actions)) (now (ranks .entry))
+        → WantsCountedIn (now (file .entry)) n (length (now (ranks .entry))) total (now (acts .entry)) (now (vars .entry)) (now (steps .entry)) (now (wants .entry)) t
+        → Taken t (now (ranks .entry)) total r (now (room .exit))) ⌝ }
+{
+    let mut state = [0u8; 32];
+    tables::set_out(n, vars, &mut state);
+    ranking::name_all(ranks, room);
+    taking::take_all(file, ranks, n, total, acts, steps, wants, &mut state, room)
+}
+
+// Every variable has a walk, and there are many actions.
 fn plan_many(
     file: &[u8],
     ranks: &[u8],
@@ -38,24 +68,32 @@ fn plan_many(
     let Met::All = met else {
         return handing::unmet(met);
     };
-    let mut state = [0u8; 32];
-    tables::set_out(n, vars, &mut state);
-    ranking::name_all(ranks, room);
-    let taken = taking::take_all(
-        file,
-        ranks,
-        n,
-        total,
-        acts,
-        steps,
-        &mut wants,
-        &mut state,
-        room,
-    );
+    let taken = take_many(file, ranks, n, total, acts, vars, steps, &mut wants, room);
     handing::finish(taken, total, room, plan)
 }
 
-// .. and there are few: their ranks are bits of one word.
+// The ranks of few actions are bits of one word, and those that come directly before each are known.
+pub fn take_few(
+    members: u64,
+    total: usize,
+    ranks: &[u8],
+    words: &mut [u64; 128],
+    room: &mut [u8; 512],
+) -> usize
+    requires { ⌜ (length (now words) ≡ 128) × (length (now room) ≡ 512) × (length (now ranks) ≤ 64)
+        × ((t : Study) × RankList (length (t .actions)) (now ranks) × Orderly total t × Ordered t (now ranks) members (now words)) ⌝ }
+    ensures { λ r. ⌜ (r ≤ total) × (length (now (room .exit)) ≡ 512) ⌝ }
+    ensures { λ r. ⌜ ((t : Study)
+        → RankList (length (t .actions)) (now (ranks .entry))
+        → Orderly total t
+        → Ordered t (now (ranks .entry)) members (now (words .entry))
+        → Taken t (now (ranks .entry)) total r (now (room .exit))) ⌝ }
+{
+    ranking::name_all(ranks, room);
+    hanging::take(members, total, words, room)
+}
+
+// Every variable has a walk, and there are few actions.
 fn plan_few(
     file: &[u8],
     ranks: &[u8],
@@ -87,13 +125,12 @@ fn plan_few(
     let Found::Members(members) = found else {
         return handing::unordered(found);
     };
-    ranking::name_all(ranks, room);
-    let taken = hanging::take(members, total, &mut words, room);
+    let taken = take_few(members, total, ranks, &mut words, room);
     handing::finish(taken, total, room, plan)
 }
 
 // Every variable has a walk: the plan, by one of the two ways.
-pub fn plan_walked(
+fn plan_walked(
     file: &[u8],
     ranks: &[u8],
     n: usize,

@@ -1,71 +1,68 @@
--- Once the first seed gives a plan, each seed gives one as long as there are walk actions; kept, one seed after another.
+-- What was taken with a seed is its plan or its refusal, and once one gives a plan each does; kept, one seed after another.
 -- Assumes nothing.
 use mathlib.Core.Path.{_≡_, refl, sym, ap, _∙_, subst}
 use mathlib.Core.List.{List, [], _∷_, _++_}
 use Prim.Native.Nat.{ℕ, zero, suc, _+_, _*_, _≤_, _<_}
 use native.Mathlib.Omega.{arith}
-use native.Mathlib.Decide.{ℕ-discrete}
-use lib.ListN.{length, getD, take, drop, length-append, length-replicate}
-use lib.Seq.{getD-drop}
-use Rattle.answer.specs.declared.Answer.{Answer}
+use native.Mathlib.Decide.{decLt}
+use lib.ListN.{length, getD, take, drop, length-append, length-drop, length-replicate}
+use lib.Seq.{getD-drop, take-at, length-take-le}
+use Rattle.answer.specs.Answers.{done}
 use Rattle.draw.specs.Draw.{drawn}
 use Rattle.draw.proofs.Drawn.{drawn-is-rank-list}
 use Rattle.ranking.proofs.Fine.{rank-list-is-fine}
 use Rattle.study.specs.Study.{Study}
 use Rattle.lawful.specs.Lawful.{Lawful}
-use Rattle.tables.specs.Rows.{Row}
-use Rattle.orders.proofs.Lists.{distinct-same-length}
-use Rattle.orders.proofs.Members.{order-distinct, order-members, order-has-all}
-use Rattle.walks.specs.Walks.{OnAWalk, ComesBefore}
-use Rattle.walks.proofs.Ordered.{straight-is-order}
 use Rattle.planning.specs.Planning.{LowestWithout, Plans, no-walk}
-use Rattle.planning.specs.Refusals.{withoutWalk}
-use Rattle.tracing.specs.Steps.{Members}
-use Rattle.varied.specs.Outcomes.{Outcome, planned, barred, outcomeOf, anyRoom, ComesTo, Come}
+use Rattle.planning.specs.Refusals.{withoutWalk, withRing}
+use Rattle.handing.specs.Handing.{Taken}
+use Rattle.handing.proofs.Outcomes.{few-in-all, fewer-is-ring, fits}
+use Rattle.varied.specs.Outcomes.{Outcome, planned, barred, anyRoom, ComesTo, Come}
 use Rattle.varied.specs.Figures.{plansAmong}
-use Rattle.varied.proofs.Comes.{Yields, a-first-plan, yields, comes-to, come-more, plan-as-long, plan-of-actions, answer-0-told, refusal-told}
-use Rattle.varied.proofs.Alike.{PlanOf, AllPlans, plan-then-plans}
+use Rattle.varied.proofs.Comes.{comes-to, come-more, plan-of-actions, answer-0-told, refusal-told}
+use Rattle.varied.proofs.Alike.{AllPlans, plan-then-plans}
 use Rattle.varied.proofs.Told.{plans-among-length, plans-among-more, all-plans-more}
 use Rattle.tallying.specs.Kept.{planAt, Kept, KeptBelow}
 use Rattle.tallying.proofs.Keeping.{none-kept, kept-below}
-use Rattle.varying.specs.declared.Extent.{Extent}
-use Rattle.varying.specs.Seeds.{EnteredIn, Planned, KeptAll}
+use Rattle.varying.specs.Seeds.{KeptAll}
 
--- a plan that a seed gives has each walk action once
-pub as-long-as-members :
-    {t : Study} {members list : List ℕ} → Lawful t → Members t members → (seed : ℕ) → ComesTo t seed (planned list) → length list ≡ length members
-as-long-as-members {t} {members} lawful are seed c = from (yields lawful seed c)
+-- what stands in the room from 256 on is as long as a plan
+pub plan-long : {total : ℕ} → total ≤ 256 → (room : List ℕ) → length room ≡ 512 → length (take total (drop 256 room)) ≡ total
+plan-long {total} few room sized = length-take-le total (drop 256 room) (omega (arith, length-drop 256 room))
+
+any-room : 256 ≤ length anyRoom
+any-room = omega (arith, length-replicate {A = ℕ} 256 0)
+
+-- what was taken with a seed is its plan, if it is all that is on walks; or its refusal
+module _
+    {t : Study} (seed : ℕ) {total k : ℕ} {room : List ℕ} (taken : Taken t (drawn seed (length (t .actions))) total k room)
+    (sized : length room ≡ 512) (within : k ≤ total)
   where
-    from : {list : List ℕ} → Yields t seed (planned list) → length list ≡ length members
-    from {list} (a-first-plan p) =
-        let order = straight-is-order lawful (p .straight) in
-        distinct-same-length list members (order-distinct (OnAWalk t) (ComesBefore t) list order) (are .once)
-        (λ x h. are .all x (order-members (OnAWalk t) (ComesBefore t) list order x h))
-        (λ x h. order-has-all (OnAWalk t) (ComesBefore t) list order x (are .only x h))
+    pub taken-few : total ≤ 256
+    taken-few = omega (arith, few-in-all (taken .lawful) (taken .members), taken .counted)
 
--- what an answer and the buffer tell is a plan, if all seeds give plans
-module _ {t : Study} {plan members : List ℕ} (lawful : Lawful t) (are : Members t members) (first : ℕ) (comes : ComesTo t first (planned plan)) where
-  pub told-plan :
-      (seed : ℕ) {before left : List ℕ} {r : Answer} → 256 ≤ length before → Plans t (drawn seed (length (t .actions))) before r left
-      → ComesTo t seed (planned (take (length members) left))
-  told-plan seed {left = left} {r = r} long p = go (ℕ-discrete (r .number) 0)
-    where
-      one : ComesTo t seed (outcomeOf r left)
-      one = comes-to lawful seed long p
+    pub ring-comes : k < total → ComesTo t seed (barred (withRing k))
+    ring-comes h =
+        subst (ComesTo t seed) (refusal-told (withRing k) anyRoom (λ e. omega arith))
+        (comes-to (taken .lawful) seed any-room (fewer-is-ring taken sized within anyRoom h))
 
-      a-plan : PlanOf (length plan) (outcomeOf r left)
-      a-plan = plan-then-plans lawful comes seed (outcomeOf r left ∷ []) (one, tt) .0
+    pub plan-comes : total ≤ k → ComesTo t seed (planned (take total (drop 256 room)))
+    plan-comes h =
+        subst (λ (list : List ℕ). ComesTo t seed (planned list)) (take-at (take total (drop 256 room)) (drop total anyRoom) total (plan-long taken-few room sized))
+        (subst (ComesTo t seed) (answer-0-told (done total 0) _ refl)
+        (comes-to (taken .lawful) seed any-room (fits taken sized within h anyRoom (omega (arith, taken-few, any-room)))))
 
-      go : Dec (r .number ≡ 0) → ComesTo t seed (planned (take (length members) left))
-      go (yes e) =
-          let as-told : ComesTo t seed (planned (take (r .first) left)) = rw (answer-0-told r left e) at one in
-          let same : r .first ≡ length members = sym (plan-as-long lawful seed p e .0) ∙ as-long-as-members lawful are seed as-told in
-          rw (← same) as-told
-      go (no o) = absurd (subst (PlanOf (length plan)) (refusal-told r left o) a-plan)
+    -- if another seed gives a plan, this one does
+    pub later-comes : {first : ℕ} {plan : List ℕ} → ComesTo t first (planned plan) → ComesTo t seed (planned (take total (drop 256 room)))
+    later-comes comes = go (decLt k total)
+      where
+        go : Dec (k < total) → ComesTo t seed (planned (take total (drop 256 room)))
+        go (yes h) = absurd (plan-then-plans (taken .lawful) comes seed (barred (withRing k) ∷ []) (ring-comes h, tt) .0)
+        go (no n) = plan-comes (omega arith)
 
 -- ---- keeping them
 
-pub none-yet : (t : Study) (first len base stride : ℕ) (region : List ℕ) → KeptAll t first 0 len base stride region
+none-yet : (t : Study) (first len base stride : ℕ) (region : List ℕ) → KeptAll t first 0 len base stride region
 unfolding plansAmong
 none-yet t first len base stride region = record { outcomes = []; each = refl; come = tt; plans = tt; kept = none-kept region base stride len }
 
@@ -83,6 +80,13 @@ one-more-kept {t} {first} {k} {len} {base} {stride} {after = after} {plan = plan
       subst (Kept after base stride len) (sym (plans-among-more (all .outcomes) plan))
       (ensured (plansAmong (all .outcomes)) (plans-among-length len (all .outcomes) (all .plans) ∙ all .each) (all .kept));
 }
+
+pub first-kept :
+    {t : Study} {first len base stride : ℕ} {region after plan : List ℕ} → ComesTo t first (planned plan) → length plan ≡ len
+    → ((plans : List (List ℕ)) → length plans ≡ 0 → Kept region base stride len plans → Kept after base stride len (plans ++ (plan ∷ [])))
+    → KeptAll t first 1 len base stride after
+first-kept {t} {first} {len} {base} {stride} {region} {plan = plan} c is-long ensured =
+    one-more-kept (none-yet t first len base stride region) (subst (λ (seed : ℕ). ComesTo t seed (planned plan)) (omega arith) c) is-long ensured
 
 -- ---- what is kept are actions
 
@@ -122,24 +126,10 @@ headed-kept {stride = stride} {region = region} {after = after} all heads = reco
     moved i at e =
         rw e (sym (getD-drop 5 after i 0) ∙ ap (λ (l : List ℕ). getD (drop 5 l) i 0) heads ∙ getD-drop 5 region i 0)
 
--- ---- the first seed
-
-pub first-planned :
-    {file : List ℕ} {e : Extent} {acts vars : List Row} {steps : List ℕ} {t : Study} → EnteredIn file e acts vars steps t
-    → (r : Answer) → r .number ≡ 0 → ((left : List ℕ) × ComesTo t (e .first) (outcomeOf r left)) → Planned file e acts vars steps t
-first-planned entered r zero-answer (left, comes) =
-    record { entered = entered; plan = take (r .first) left; comes = rw (answer-0-told r left zero-answer) at comes }
-
-pub plan-long :
-    {file : List ℕ} {e : Extent} {acts vars : List Row} {steps : List ℕ} {t : Study} → (given : Planned file e acts vars steps t)
-    → length (given .plan) ≡ e .total
-plan-long {e = e} given =
-    as-long-as-members (given .entered .lawful) (given .entered .members) (e .first) (given .comes) ∙ given .entered .counted
-
 -- a variable without a walk bars every seed
 pub without-comes : {t : Study} {v b : ℕ} → Lawful t → (seed : ℕ) → LowestWithout t v b → ComesTo t seed (barred (withoutWalk v b))
 without-comes {t} {v} {b} lawful seed lowest =
-    subst (ComesTo t seed) (refusal-told (withoutWalk v b) anyRoom (λ e. omega arith)) (comes-to lawful seed (omega (arith, length-replicate {A = ℕ} 256 0)) answers)
+    subst (ComesTo t seed) (refusal-told (withoutWalk v b) anyRoom (λ e. omega arith)) (comes-to lawful seed any-room answers)
   where
     answers : Plans t (drawn seed (length (t .actions))) anyRoom (withoutWalk v b) anyRoom
     answers = no-walk (rank-list-is-fine (drawn-is-rank-list seed (length (t .actions)))) lowest

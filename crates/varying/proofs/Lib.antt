@@ -1,3 +1,3 @@
-pub mod Refilled
+pub mod Once
 pub mod Alike
 pub mod Writing

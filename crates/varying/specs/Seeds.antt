@@ -1,21 +1,28 @@
 -- What stays true from seed to seed, and what is kept and reported of the seeds' plans.
 -- Assumes nothing.
-use Prim.Native.Nat.{ℕ, _+_, _≤_}
+use Prim.Native.Nat.{ℕ, _+_, _*_, _≤_}
 use mathlib.Core.Path.{_≡_}
-use mathlib.Core.List.{List, [], _++_}
-use lib.ListN.{length, drop}
+use mathlib.Core.List.{List, _++_}
+use lib.ListN.{length, take, drop}
 use Rattle.study.specs.Study.{Study}
 use Rattle.lawful.specs.Lawful.{Lawful}
-use Rattle.tables.specs.Tables.{ActionTables, HoldsActions}
+use Rattle.tables.specs.Tables.{ActionTables, HoldsActions, NamesSetters}
 use Rattle.tables.specs.Rows.{Row, startColumn, seen}
 use Rattle.walks.specs.Walks.{startOf}
 use Rattle.tracing.specs.Facts.{Tells}
 use Rattle.tracing.specs.Steps.{Rowed, Members}
+use Rattle.renaming.specs.Renaming.{ByAction}
+use Rattle.draw.specs.Draw.{drawn}
+use Rattle.handing.specs.Handing.{Taken}
+use Rattle.stages.specs.Whole.{Orderly, WantsCountedIn}
 use Rattle.varied.specs.Outcomes.{Outcome, planned, ComesTo, Come}
+use Rattle.varied.specs.Report.{Reports}
 use Rattle.varied.specs.Figures.{plansAmong, reportOf}
 use Rattle.varied.proofs.Alike.{AllPlans}
 use Rattle.tallying.specs.Kept.{Kept}
 use Rattle.varying.specs.declared.Extent.{Extent}
+use Rattle.varying.specs.declared.FirstSeed.{FirstSeed}
+use Rattle.varying.specs.declared.FirstSeed.the-variants.{Settles, Plans}
 
 -- the seeds are in range, and one to 64
 pub record InRange (first seeds : ℕ) : Type 0 where
@@ -29,21 +36,41 @@ pub record Entered (file : List ℕ) (e : Extent) (acts : ActionTables) (starts 
   pub lawful : Lawful t
   pub variables : e .vars ≡ length (t .tasks)
   pub actions : HoldsActions file (t .situation) (e .actions) acts (t .actions)
+  pub setters : NamesSetters (t .situation) (e .actions) (acts .setters) (t .actions)
   pub tells-starts : Tells startOf (e .vars) starts t
   pub rowed : Rowed t (e .vars) steps
   pub list : List ℕ
   pub members : Members t list
   pub counted : length list ≡ e .total
 
--- the same of tables in rows, whatever the table of setters is
-abbrev pub EnteredIn : List ℕ → Extent → List Row → List Row → List ℕ → Study → Type 0
-EnteredIn file e acts vars steps t = Entered file e (seen [] acts) (startColumn vars) steps t
+-- the same of tables in rows
+abbrev pub EnteredIn : List ℕ → Extent → List Row → List Row → List ℕ → List ℕ → Study → Type 0
+EnteredIn file e acts vars setters steps t = Entered file e (seen setters acts) (startColumn vars) steps t
 
--- .. and the first seed gives a plan
-pub record Planned (file : List ℕ) (e : Extent) (acts : List Row) (vars : List Row) (steps : List ℕ) (t : Study) : Type 0 where
-  pub entered : EnteredIn file e acts vars steps t
-  pub plan : List ℕ
-  pub comes : ComesTo t (e .first) (planned plan)
+-- few actions, once for all seeds: what comes directly before each is known by action
+pub record OrderedOnce (e : Extent) (members : ℕ) (words : List ℕ) (t : Study) : Type 0 where
+  pub actions : e .actions ≡ length (t .actions)
+  pub orderly : Orderly (e .total) t
+  pub by-action : ByAction t members words
+
+-- many: the values that they want are counted
+abbrev pub CountedOnce : List ℕ → Extent → List Row → List Row → List ℕ → List ℕ → Study → Type 0
+CountedOnce file e acts vars steps wants t = WantsCountedIn file (e .vars) (e .actions) (e .total) acts vars steps wants t
+
+-- so many were taken with the first seed, and stand in the room from 256 on
+pub record TakenFirst (t : Study) (e : Extent) (taken : ℕ) (room : List ℕ) : Type 0 where
+  pub so : Taken t (drawn (e .first) (length (t .actions))) (e .total) taken room
+  pub within : taken ≤ e .total
+  pub sized : length room ≡ 512
+
+-- .. and are its plan
+abbrev pub FirstTaken : Study → Extent → List ℕ → Type 0
+FirstTaken t e room = ComesTo t (e .first) (planned (take (e .total) (drop 256 room)))
+
+-- what the first seed tells: the answer of all, or its plan, for which the report has room
+abbrev pub Judges : Study → Extent → List ℕ → List ℕ → List ℕ → FirstSeed → Type 0
+Judges t e room before after (Settles answer) = Reports t (e .first) (e .seeds) before answer after
+Judges t e room before after (Plans n) = (after ≡ before) × (n ≡ 5 + e .actions * e .total) × (n ≤ length before) × FirstTaken t e room
 
 -- the first k seeds give plans, which are kept
 pub record KeptAll (t : Study) (first k len base stride : ℕ) (region : List ℕ) : Type 0 where

@@ -1,28 +1,30 @@
-// A report on what was loaded: the walks once, then a plan for each seed, kept and counted.
+// A report on what was loaded: walks, and what comes before what, once; then a plan for each seed, kept and counted.
 ghost use mathlib.Core.Path.{_≡_};
-ghost use mathlib.Core.List.{List, _∷_};
+ghost use mathlib.Core.List.{List, [], _∷_, _++_};
 ghost use Prim.Native.Nat.{ℕ, _+_, _*_, _≤_, _<_};
 ghost use lib.Dec.{eqb};
-ghost use lib.ListN.{length, drop};
+ghost use lib.ListN.{length, take, drop};
 ghost use Rattle.answer.specs.Answers.{refusal};
 ghost use Rattle.answer.specs.declared.Answer.{Answer as Told};
 ghost use Rattle.plain.specs.Choose.{pick};
 ghost use Rattle.study.specs.Study.{Study};
 ghost use Rattle.lawful.specs.Lawful.{Lawful};
-ghost use Rattle.planning.specs.Planning.{Plans};
 ghost use Rattle.draw.specs.Draw.{drawn};
-ghost use Rattle.varied.specs.Outcomes.{barred, outcomeOf, ComesTo};
+ghost use Rattle.handing.specs.Handing.{Taken};
+ghost use Rattle.varied.specs.Outcomes.{barred, ComesTo};
 ghost use Rattle.varied.specs.Report.{Reports};
-ghost use Rattle.tallying.specs.Kept.{RoomFor};
+ghost use Rattle.tallying.specs.Kept.{RoomFor, Kept};
 ghost use Rattle.stages.specs.Whole.{KnownIn};
-ghost use Rattle.varying.specs.Seeds.{InRange, EnteredIn, Planned, KeptAll, Reported};
+ghost use Rattle.varying.specs.Seeds.{InRange, EnteredIn, OrderedOnce, CountedOnce, TakenFirst, FirstTaken, Judges, KeptAll, Reported};
 use answer::Answer;
+use ordering::Found;
 use tracing::Walked;
+use wanting::Met;
 
 // The figures before the rows.
 const HEAD: usize = 5;
 
-// Up to so many actions the plans are kept apart from the report.
+// Up to so many actions a set of them is one word, and the plans are kept apart from the report.
 const FEW: usize = 64;
 
 // Which seeds, and how many variables, actions and steps of a plan there are.
@@ -32,6 +34,12 @@ pub struct Extent {
     pub vars: usize,
     pub actions: usize,
     pub total: usize,
+}
+
+// What the first seed tells of all: the answer; or that each gives a plan, and how long the report is.
+pub enum FirstSeed {
+    Settles(Answer),
+    Plans(usize),
 }
 
 fn numbers(number: u64, first: usize) -> Answer
@@ -89,27 +97,63 @@ fn all_refused(number: u64, seeds: usize, report: &mut [u8]) -> Answer
     numbers(0, HEAD)
 }
 
-// Plans with the list that a seed draws. Planning uses the table of setters up, so it is filled anew.
-fn plan_by(
+// So many walk actions were taken with the first seed.
+fn judge_first(taken: usize, e: Extent, report: &mut [u8]) -> FirstSeed
+    requires { ⌜ (e .seeds ≤ 64) × (e .actions * e .total ≤ 65536) ⌝ }
+    ensures { λ r. ⌜ ((t : Study) (room : List ℕ)
+        → InRange (e .first) (e .seeds)
+        → e .actions ≡ length (t .actions)
+        → TakenFirst t e taken room
+        → Judges t e room (now (report .entry)) (now (report .exit)) r) ⌝ }
+{
+    if taken < e.total {
+        return FirstSeed::Settles(all_refused(12, e.seeds, report));
+    }
+    let length = HEAD + e.actions * e.total;
+    if report.len() < length {
+        return FirstSeed::Settles(numbers(13, length));
+    }
+    FirstSeed::Plans(length)
+}
+
+// Few actions: takes them by the list that a seed draws.
+fn take_few_by(seed: u64, e: Extent, members: u64, words: &[u64; 64], room: &mut [u8; 512]) -> usize
+    requires { ⌜ (length (now room) ≡ 512) × (e .actions ≤ 64) × (1 ≤ seed) × (seed < 2147483647)
+        × ((t : Study) × OrderedOnce e members (now words) t) ⌝ }
+    ensures { λ r. ⌜ (r ≤ e .total) × (length (now (room .exit)) ≡ 512) ⌝ }
+    ensures { λ r. ⌜ ((t : Study)
+        → OrderedOnce e members (now (words .entry)) t
+        → Taken t (drawn seed (length (t .actions))) (e .total) r (now (room .exit))) ⌝ }
+{
+    let mut ranks = [0u8; 64];
+    draw::draw(seed, e.actions as u64, &mut ranks);
+    let mut before = [0u64; 128];
+    let ranked = renaming::rename_all(members, words, &ranks[..e.actions], &mut before);
+    stages::take_few(ranked, e.total, &ranks[..e.actions], &mut before, room)
+}
+
+// Many: the same, from a copy of the counts.
+fn take_many_by(
     file: &[u8],
     seed: u64,
     e: Extent,
     acts: &[[u8; 6]; 256],
     vars: &[[u8; 3]; 32],
-    setters: &mut [u8; 512],
     steps: &[u16; 512],
-    plan: &mut [u8],
-) -> Answer
-    requires { ⌜ (length (now setters) ≡ 512) × (1 ≤ seed) × (seed < 2147483647) × ((t : Study) × EnteredIn (now file) e (now acts) (now vars) (now steps) t) ⌝ }
-    ensures { λ _. ⌜ length (now (setters .exit)) ≡ 512 ⌝ }
+    wants: &[u16; 512],
+    room: &mut [u8; 512],
+) -> usize
+    requires { ⌜ (length (now room) ≡ 512) × (length (now wants) ≡ 512) × (1 ≤ seed) × (seed < 2147483647)
+        × ((t : Study) × CountedOnce (now file) e (now acts) (now vars) (now steps) (now wants) t) ⌝ }
+    ensures { λ r. ⌜ (r ≤ e .total) × (length (now (room .exit)) ≡ 512) ⌝ }
     ensures { λ r. ⌜ ((t : Study)
-        → EnteredIn (now (file .entry)) e (now (acts .entry)) (now (vars .entry)) (now (steps .entry)) t
-        → Plans t (drawn seed (length (t .actions))) (now (plan .entry)) r (now (plan .exit))) ⌝ }
+        → CountedOnce (now (file .entry)) e (now (acts .entry)) (now (vars .entry)) (now (steps .entry)) (now (wants .entry)) t
+        → Taken t (drawn seed (length (t .actions))) (e .total) r (now (room .exit))) ⌝ }
 {
     let mut ranks = [0u8; 256];
     draw::draw(seed, e.actions as u64, &mut ranks);
-    setters::fill(e.actions, acts, setters);
-    stages::plan_walked(
+    let mut left = *wants;
+    stages::take_many(
         file,
         &ranks[..e.actions],
         e.vars,
@@ -117,68 +161,163 @@ fn plan_by(
         acts,
         vars,
         steps,
-        setters,
-        plan,
+        &mut left,
+        room,
     )
 }
 
-// What planning with the first seed answers, which tells of all whether there are plans.
-fn first_answer(
-    file: &[u8],
-    e: Extent,
-    acts: &[[u8; 6]; 256],
-    vars: &[[u8; 3]; 32],
-    setters: &mut [u8; 512],
-    steps: &[u16; 512],
-) -> Answer
-    requires { ⌜ (length (now setters) ≡ 512) × InRange (e .first) (e .seeds) × ((t : Study) × EnteredIn (now file) e (now acts) (now vars) (now steps) t) ⌝ }
-    ensures { λ _. ⌜ length (now (setters .exit)) ≡ 512 ⌝ }
-    ensures { λ r. ⌜ ((t : Study)
-        → EnteredIn (now (file .entry)) e (now (acts .entry)) (now (vars .entry)) (now (steps .entry)) t
-        → (left : List ℕ) × ComesTo t (e .first) (outcomeOf r left)) ⌝ }
+// Keeps what was taken as plan k.
+fn keep(room: &[u8], len: usize, k: usize, base: usize, stride: usize, region: &mut [u8])
+    requires { ⌜ (length (now room) ≡ 512) × (len ≤ 256) × (k < stride) × RoomFor base stride len (now region) ⌝ }
+    ensures { λ _. ⌜ drop (base + stride * len) (now (region .exit)) ≡ drop (base + stride * len) (now (region .entry)) ⌝ }
+    ensures { λ _. ⌜ ((plans : List (List ℕ))
+        → length plans ≡ k
+        → Kept (now (region .entry)) base stride len plans
+        → Kept (now (region .exit)) base stride len (plans ++ (take len (drop 256 (now (room .entry))) ∷ []))) ⌝ }
 {
-    let mut plan = [0u8; 256];
-    plan_by(file, e.first, e, acts, vars, setters, steps, &mut plan)
+    tallying::keep(&room[256..], len, k, base, stride, region);
 }
 
-// Plans with each seed, and keeps the plans in the rows from `base` on, `stride` bytes each.
-fn keep_all(
-    file: &[u8],
-    e: Extent,
-    acts: &[[u8; 6]; 256],
-    vars: &[[u8; 3]; 32],
-    setters: &mut [u8; 512],
-    steps: &[u16; 512],
-    base: usize,
-    stride: usize,
-    region: &mut [u8],
-)
-    requires { ⌜ (length (now setters) ≡ 512) × InRange (e .first) (e .seeds) × (e .seeds ≤ stride) × RoomFor base stride (e .total) (now region)
-        × ((t : Study) × Planned (now file) e (now acts) (now vars) (now steps) t) ⌝ }
-    ensures { λ _. ⌜ drop (base + stride * e .total) (now (region .exit)) ≡ drop (base + stride * e .total) (now (region .entry)) ⌝ }
+// Few actions: keeps the plan of the first seed, which was taken, then takes and keeps those of the others.
+fn keep_few(e: Extent, members: u64, words: &[u64; 64], room: &mut [u8; 512], kept: &mut [u8])
+    requires { ⌜ (length (now room) ≡ 512) × InRange (e .first) (e .seeds) × (e .actions ≤ 64) × RoomFor 0 64 (e .total) (now kept)
+        × ((t : Study) × OrderedOnce e members (now words) t) ⌝ }
     ensures { λ _. ⌜ ((t : Study)
-        → Planned (now (file .entry)) e (now (acts .entry)) (now (vars .entry)) (now (steps .entry)) t
-        → KeptAll t (e .first) (e .seeds) (e .total) base stride (now (region .exit))) ⌝ }
+        → OrderedOnce e members (now (words .entry)) t
+        → FirstTaken t e (now (room .entry))
+        → KeptAll t (e .first) (e .seeds) (e .total) 0 64 (now (kept .exit))) ⌝ }
 {
-    let mut plan = [0u8; 256];
-    let mut k = 0;
+    keep(room, e.total, 0, 0, 64, kept);
+    let mut k = 1;
     while k < e.seeds {
-        plan_by(
-            file,
-            e.first + (k as u64),
-            e,
-            acts,
-            vars,
-            setters,
-            steps,
-            &mut plan,
-        );
-        tallying::keep(&plan, e.total, k, base, stride, region);
+        take_few_by(e.first + (k as u64), e, members, words, room);
+        keep(room, e.total, k, 0, 64, kept);
         k += 1;
     }
 }
 
-// Few actions: the plans are kept apart.
+// Many: a row of the report has more bytes than there are seeds, and keeps them until it is counted.
+fn keep_many(
+    file: &[u8],
+    e: Extent,
+    acts: &[[u8; 6]; 256],
+    vars: &[[u8; 3]; 32],
+    steps: &[u16; 512],
+    wants: &[u16; 512],
+    room: &mut [u8; 512],
+    report: &mut [u8],
+)
+    requires { ⌜ (length (now room) ≡ 512) × (length (now wants) ≡ 512) × InRange (e .first) (e .seeds) × (64 < e .actions) × RoomFor 5 (e .actions) (e .total) (now report)
+        × ((t : Study) × CountedOnce (now file) e (now acts) (now vars) (now steps) (now wants) t) ⌝ }
+    ensures { λ _. ⌜ drop (5 + e .actions * e .total) (now (report .exit)) ≡ drop (5 + e .actions * e .total) (now (report .entry)) ⌝ }
+    ensures { λ _. ⌜ ((t : Study)
+        → CountedOnce (now (file .entry)) e (now (acts .entry)) (now (vars .entry)) (now (steps .entry)) (now (wants .entry)) t
+        → FirstTaken t e (now (room .entry))
+        → KeptAll t (e .first) (e .seeds) (e .total) 5 (e .actions) (now (report .exit))) ⌝ }
+{
+    keep(room, e.total, 0, HEAD, e.actions, report);
+    let mut k = 1;
+    while k < e.seeds {
+        let seed = e.first + (k as u64);
+        take_many_by(file, seed, e, acts, vars, steps, wants, room);
+        keep(room, e.total, k, HEAD, e.actions, report);
+        k += 1;
+    }
+}
+
+// The first seed gives a plan, which was taken, so all do. Few actions: the plans are kept apart.
+fn count_few(e: Extent, members: u64, words: &[u64; 64], room: &mut [u8; 512], report: &mut [u8])
+    requires { ⌜ (length (now room) ≡ 512) × InRange (e .first) (e .seeds) × (e .actions ≤ 64) × RoomFor 5 (e .actions) (e .total) (now report)
+        × ((t : Study) × OrderedOnce e members (now words) t × FirstTaken t e (now room)) ⌝ }
+    ensures { λ _. ⌜ ((t : Study)
+        → OrderedOnce e members (now (words .entry)) t
+        → FirstTaken t e (now (room .entry))
+        → Reported t (e .first) (e .seeds) (e .total) (now (report .entry)) (now (report .exit))) ⌝ }
+{
+    let mut kept = [0u8; 4096];
+    keep_few(e, members, words, room, &mut kept);
+    let different = tallying::different(e.seeds, e.total, 0, 64, &kept);
+    head(e.seeds as u8, 0, 0, 0, different as u8, report);
+    tallying::rows_from(e.seeds, e.total, e.actions, &kept, report);
+}
+
+// Many: they are kept in the rows.
+fn count_many(
+    file: &[u8],
+    e: Extent,
+    acts: &[[u8; 6]; 256],
+    vars: &[[u8; 3]; 32],
+    steps: &[u16; 512],
+    wants: &[u16; 512],
+    room: &mut [u8; 512],
+    report: &mut [u8],
+)
+    requires { ⌜ (length (now room) ≡ 512) × (length (now wants) ≡ 512) × InRange (e .first) (e .seeds) × (64 < e .actions) × RoomFor 5 (e .actions) (e .total) (now report)
+        × ((t : Study) × CountedOnce (now file) e (now acts) (now vars) (now steps) (now wants) t × FirstTaken t e (now room)) ⌝ }
+    ensures { λ _. ⌜ ((t : Study)
+        → CountedOnce (now (file .entry)) e (now (acts .entry)) (now (vars .entry)) (now (steps .entry)) (now (wants .entry)) t
+        → FirstTaken t e (now (room .entry))
+        → Reported t (e .first) (e .seeds) (e .total) (now (report .entry)) (now (report .exit))) ⌝ }
+{
+    keep_many(file, e, acts, vars, steps, wants, room, report);
+    let different = tallying::different(e.seeds, e.total, HEAD, e.actions, report);
+    head(e.seeds as u8, 0, 0, 0, different as u8, report);
+    tallying::rows_in_place(e.seeds, e.total, e.actions, report);
+}
+
+// Few actions, and what comes before each is known.
+fn report_ordered(
+    e: Extent,
+    members: u64,
+    words: &[u64; 64],
+    room: &mut [u8; 512],
+    report: &mut [u8],
+) -> Answer
+    requires { ⌜ (length (now room) ≡ 512) × InRange (e .first) (e .seeds) × (e .actions ≤ 64) × ((t : Study) × OrderedOnce e members (now words) t) ⌝ }
+    ensures { λ r. ⌜ ((t : Study)
+        → OrderedOnce e members (now (words .entry)) t
+        → Reports t (e .first) (e .seeds) (now (report .entry)) r (now (report .exit))) ⌝ }
+{
+    let taken = take_few_by(e.first, e, members, words, room);
+    let first = judge_first(taken, e, report);
+    match first {
+        FirstSeed::Settles(answer) => answer,
+        FirstSeed::Plans(length) => {
+            count_few(e, members, words, room, report);
+            numbers(0, length)
+        }
+    }
+}
+
+// Many, and the values that they want are counted.
+fn report_counted(
+    file: &[u8],
+    e: Extent,
+    acts: &[[u8; 6]; 256],
+    vars: &[[u8; 3]; 32],
+    steps: &[u16; 512],
+    wants: &[u16; 512],
+    room: &mut [u8; 512],
+    report: &mut [u8],
+) -> Answer
+    requires { ⌜ (length (now room) ≡ 512) × (length (now wants) ≡ 512) × InRange (e .first) (e .seeds) × (64 < e .actions)
+        × ((t : Study) × CountedOnce (now file) e (now acts) (now vars) (now steps) (now wants) t) ⌝ }
+    ensures { λ r. ⌜ ((t : Study)
+        → CountedOnce (now (file .entry)) e (now (acts .entry)) (now (vars .entry)) (now (steps .entry)) (now (wants .entry)) t
+        → Reports t (e .first) (e .seeds) (now (report .entry)) r (now (report .exit))) ⌝ }
+{
+    let taken = take_many_by(file, e.first, e, acts, vars, steps, wants, room);
+    let first = judge_first(taken, e, report);
+    match first {
+        FirstSeed::Settles(answer) => answer,
+        FirstSeed::Plans(length) => {
+            count_many(file, e, acts, vars, steps, wants, room, report);
+            numbers(0, length)
+        }
+    }
+}
+
+// Every variable has a walk. Few actions: they are ordered once.
 fn report_few(
     file: &[u8],
     e: Extent,
@@ -187,21 +326,22 @@ fn report_few(
     setters: &mut [u8; 512],
     steps: &[u16; 512],
     report: &mut [u8],
-)
-    requires { ⌜ (length (now setters) ≡ 512) × InRange (e .first) (e .seeds) × (e .actions ≤ 64) × RoomFor 5 (e .actions) (e .total) (now report)
-        × ((t : Study) × Planned (now file) e (now acts) (now vars) (now steps) t) ⌝ }
-    ensures { λ _. ⌜ ((t : Study)
-        → Planned (now (file .entry)) e (now (acts .entry)) (now (vars .entry)) (now (steps .entry)) t
-        → Reported t (e .first) (e .seeds) (e .total) (now (report .entry)) (now (report .exit))) ⌝ }
+) -> Answer
+    requires { ⌜ (length (now setters) ≡ 512) × InRange (e .first) (e .seeds) × (e .actions ≤ 64)
+        × ((t : Study) × EnteredIn (now file) e (now acts) (now vars) (now setters) (now steps) t) ⌝ }
+    ensures { λ r. ⌜ ((t : Study)
+        → EnteredIn (now (file .entry)) e (now (acts .entry)) (now (vars .entry)) (now (setters .entry)) (now (steps .entry)) t
+        → Reports t (e .first) (e .seeds) (now (report .entry)) r (now (report .exit))) ⌝ }
 {
-    let mut kept = [0u8; 4096];
-    keep_all(file, e, acts, vars, setters, steps, 0, 64, &mut kept);
-    let different = tallying::different(e.seeds, e.total, 0, 64, &kept);
-    head(e.seeds as u8, 0, 0, 0, different as u8, report);
-    tallying::rows_from(e.seeds, e.total, e.actions, &kept, report);
+    let mut words = [0u64; 64];
+    let found = renaming::order_by_action(file, e.actions, acts, vars, setters, steps, &mut words);
+    let Found::Members(members) = found else {
+        return all_refused(11, e.seeds, report);
+    };
+    report_ordered(e, members, &words, setters, report)
 }
 
-// Many: a row of the report has more bytes than there are seeds, and keeps them until it is counted.
+// Many: what they want is counted once.
 fn report_many(
     file: &[u8],
     e: Extent,
@@ -210,48 +350,19 @@ fn report_many(
     setters: &mut [u8; 512],
     steps: &[u16; 512],
     report: &mut [u8],
-)
-    requires { ⌜ (length (now setters) ≡ 512) × InRange (e .first) (e .seeds) × (64 < e .actions) × RoomFor 5 (e .actions) (e .total) (now report)
-        × ((t : Study) × Planned (now file) e (now acts) (now vars) (now steps) t) ⌝ }
-    ensures { λ _. ⌜ ((t : Study)
-        → Planned (now (file .entry)) e (now (acts .entry)) (now (vars .entry)) (now (steps .entry)) t
-        → Reported t (e .first) (e .seeds) (e .total) (now (report .entry)) (now (report .exit))) ⌝ }
-{
-    keep_all(file, e, acts, vars, setters, steps, HEAD, e.actions, report);
-    let different = tallying::different(e.seeds, e.total, HEAD, e.actions, report);
-    head(e.seeds as u8, 0, 0, 0, different as u8, report);
-    tallying::rows_in_place(e.seeds, e.total, e.actions, report);
-}
-
-// Every variable has a walk.
-fn report_walked(
-    file: &[u8],
-    e: Extent,
-    acts: &[[u8; 6]; 256],
-    vars: &[[u8; 3]; 32],
-    setters: &mut [u8; 512],
-    steps: &[u16; 512],
-    report: &mut [u8],
 ) -> Answer
-    requires { ⌜ (length (now setters) ≡ 512) × InRange (e .first) (e .seeds) × ((t : Study) × EnteredIn (now file) e (now acts) (now vars) (now steps) t) ⌝ }
+    requires { ⌜ (length (now setters) ≡ 512) × InRange (e .first) (e .seeds) × (64 < e .actions)
+        × ((t : Study) × EnteredIn (now file) e (now acts) (now vars) (now setters) (now steps) t) ⌝ }
     ensures { λ r. ⌜ ((t : Study)
-        → EnteredIn (now (file .entry)) e (now (acts .entry)) (now (vars .entry)) (now (steps .entry)) t
+        → EnteredIn (now (file .entry)) e (now (acts .entry)) (now (vars .entry)) (now (setters .entry)) (now (steps .entry)) t
         → Reports t (e .first) (e .seeds) (now (report .entry)) r (now (report .exit))) ⌝ }
 {
-    let answer = first_answer(file, e, acts, vars, setters, steps);
-    if answer.number != 0 {
-        return all_refused(answer.number, e.seeds, report);
-    }
-    let length = HEAD + e.actions * e.total;
-    if report.len() < length {
-        return numbers(13, length);
-    }
-    if FEW < e.actions {
-        report_many(file, e, acts, vars, setters, steps, report);
-        return numbers(0, length);
-    }
-    report_few(file, e, acts, vars, setters, steps, report);
-    numbers(0, length)
+    let mut wants = [0u16; 512];
+    let met = wanting::want_all(file, e.actions, acts, steps, &mut wants);
+    let Met::All = met else {
+        return all_refused(11, e.seeds, report);
+    };
+    report_counted(file, e, acts, vars, steps, &wants, setters, report)
 }
 
 // The seeds are in range, and one to 64.
@@ -284,5 +395,8 @@ pub fn report_loaded(
         actions,
         total,
     };
-    report_walked(file, e, acts, vars, setters, &steps, report)
+    if FEW < actions {
+        return report_many(file, e, acts, vars, setters, &steps, report);
+    }
+    report_few(file, e, acts, vars, setters, &steps, report)
 }

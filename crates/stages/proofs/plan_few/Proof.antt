@@ -1,10 +1,11 @@
--- `stages::plan_few` meets its contract: a condition off its walk is refusal 11, else what is taken by rank is taken greedily.
+-- `stages::plan_few` meets its contract: a condition off its walk is refusal 11, else the actions are taken by rank.
 -- Assumes nothing.
 use mathlib.Core.Path.{refl, ap, _∙_}
 use native.Mathlib.Omega.{arith}
+use Rattle.plain.proofs.Lists.{all-zeros}
 use Rattle.handing.specs.Answers.{notOrdered}
-use Rattle.stages.proofs.Stages.{all-zeros, all-few, ranks-apart, walking-off, walking-taken}
-use Rattle.stages.proofs.Few.{walking-orderable, rank-below, members-counted, none-hung, taken-greedily}
+use Rattle.stages.proofs.Stages.{all-few, list-apart, walking-ranks, walking-off, walking-orderly}
+use Rattle.stages.proofs.Few.{walking-orderable, rank-below}
 use borrow.Author.Needs.{needs}
 use Rattle.stages.proofs.plan_few.Statement.{statement}
 use Rattle.stages.proofs.plan_few.Tie as tie
@@ -13,7 +14,7 @@ order-all-requires : tie.Need-order-all-requires
 order-all-requires c κs =
     let s = c .before .before .before .before .before in
     let (t, n, walking) = s .pre .2 in
-    (refl, s .pre .1, refl, λ i h. omega (arith, rank-below walking i h, s .pre .1), (t, walking-orderable walking))
+    (refl, s .pre .1, refl, λ i h. omega (arith, rank-below (walking-ranks walking) i h, s .pre .1), (t, walking-orderable walking))
 
 enum-known-found : tie.Need-enum-known-found
 enum-known-found c = search needs
@@ -30,36 +31,24 @@ returns c =
     let o = c .before .before .before in (
       o .before .before .before .before .before .before .pre .0,
       λ t n walking.
-          let off = rw e at (o .order-all .ensures .1 t (walking-orderable walking) (ranks-apart walking) (all-zeros 128)) in
+          let off = rw e at (o .order-all .ensures .1 t (walking-orderable walking) (list-apart (walking-ranks walking)) (all-zeros 128)) in
           rw (c .unordered .ensures ∙ ap notOrdered e) (walking-off walking off),
     )
 
-name-all-requires : tie.Need-name-all-requires
-name-all-requires c κs = search needs
-
-take-requires : tie.Need-take-requires
-take-requires c κs =
-    let m = c .before .before in
-    let f = m .before .before .before in
+take-few-requires : tie.Need-take-few-requires
+take-few-requires c κs =
+    let f = c .before .before .before in
     let o = f .before .before in
     let s = o .before .before .before .before .before .before in
     let (t, n, walking) = s .pre .2 in
-    let ordered = rw (f .found .given .1) at (o .order-all .ensures .1 t (walking-orderable walking) (ranks-apart walking) (all-zeros 128)) in
-    let few = s .pre .1 in
-    let turned = m .name-all .ensures .1 (ranks-apart walking) in (
-      all-few walking,
-      o .order-all .ensures .0,
-      m .name-all .ensures .0,
-      members-counted walking few (ordered .1) turned,
-      none-hung walking few (ordered .1) turned,
-    )
+    let (met, ordered) = rw (f .found .given .1) at (o .order-all .ensures .1 t (walking-orderable walking) (list-apart (walking-ranks walking)) (all-zeros 128)) in
+    (o .order-all .ensures .0, s .pre .0, s .pre .1, (t, walking-ranks walking, walking-orderly walking met, ordered))
 
 finish-requires : tie.Need-finish-requires
 finish-requires c κs =
     let k = c .before .before in
-    let s = k .before .before .before .before .before .before .before .before .before .before .before .before .before .before in
-    let (t, n, walking) = s .pre .2 in
-    (k .take .ensures .0 .0, all-few walking, k .take .ensures .0 .1)
+    let (t, n, walking) = k .before .before .before .before .before .before .before .before .before .before .before .before .pre .2 in
+    (k .take-few .ensures .0 .0, all-few walking, k .take-few .ensures .0 .1)
 
 same-length : tie.Need-same-length
 same-length c = search needs
@@ -68,15 +57,12 @@ returns-2 : tie.Need-returns-2
 returns-2 c =
     let g = c .before .before in
     let k = g .before .before .before in
-    let m = k .before .before .before in
-    let f = m .before .before .before in
-    let o = f .before .before in
-    let few = o .before .before .before .before .before .before .pre .1 in (
-      k .take .ensures .0 .1,
+    let f = k .before .before .before .before in
+    let o = f .before .before in (
+      k .take-few .ensures .0 .1,
       λ t n walking.
-          let ordered = rw (f .found .given .1) at (o .order-all .ensures .1 t (walking-orderable walking) (ranks-apart walking) (all-zeros 128)) in
-          g .finish .ensures t _
-          (walking-taken walking (ordered .0) _ _ (taken-greedily walking few (ordered .1) (m .name-all .ensures .1 (ranks-apart walking)) (k .take .ensures .1))),
+          let (met, ordered) = rw (f .found .given .1) at (o .order-all .ensures .1 t (walking-orderable walking) (list-apart (walking-ranks walking)) (all-zeros 128)) in
+          g .finish .ensures t _ (k .take-few .ensures .1 t (walking-ranks walking) (walking-orderly walking met) ordered),
     )
 
 pub plan-few-spec : {M : Type 1} → statement M
@@ -88,8 +74,7 @@ plan-few-spec =
     enum-told
     unordered-requires
     returns
-    name-all-requires
-    take-requires
+    take-few-requires
     finish-requires
     same-length
     returns-2)

@@ -1,8 +1,9 @@
--- `stages::plan_many` meets its contract: a condition off its walk is refusal 11, else what is taken is taken greedily.
+-- `stages::plan_many` meets its contract: a condition off its walk is refusal 11, else the actions are taken with what they want counted.
 -- Assumes nothing.
 use mathlib.Core.Path.{refl, ap, _∙_}
+use Rattle.plain.proofs.Lists.{all-zeros}
 use Rattle.handing.specs.Answers.{notMet}
-use Rattle.stages.proofs.Stages.{all-zeros, all-few, ranks-apart, walking-wishes, walking-rowed, walking-off, walking-taken, walking-prepared}
+use Rattle.stages.proofs.Stages.{all-few, walking-ranks, walking-wishes, walking-rowed, walking-off, walking-counted}
 use borrow.Author.Needs.{needs}
 use Rattle.stages.proofs.plan_many.Statement.{statement}
 use Rattle.stages.proofs.plan_many.Tie as tie
@@ -31,32 +32,20 @@ returns c =
           rw (c .unmet .ensures ∙ ap notMet e) (walking-off walking off),
     )
 
-set-out-requires : tie.Need-set-out-requires
-set-out-requires c κs = search needs
-
-name-all-requires : tie.Need-name-all-requires
-name-all-requires c κs = search needs
-
-take-all-requires : tie.Need-take-all-requires
-take-all-requires c κs =
-    let m = c .before .before .before in
-    let o = m .before .before in
-    let e = o .before .before in
+take-many-requires : tie.Need-take-many-requires
+take-many-requires c κs =
+    let e = c .before .before in
     let w = e .before .before in
-    let (t, walking) = w .before .before .before .before .before .pre .1 in
-    let (met, counts) = rw (e .enum-told .given .1) at (w .want-all .ensures .1 t (walking-wishes walking) (walking-rowed walking)) in (
-      w .want-all .ensures .0,
-      o .set-out .ensures .long,
-      m .name-all .ensures .0,
-      m .name-all .ensures .1 (ranks-apart walking) .inverse,
-      (t, walking-prepared walking _ _ met counts (o .set-out .ensures)),
-    )
+    let s = w .before .before .before .before .before in
+    let (t, walking) = s .pre .1 in
+    let (met, counts) = rw (e .enum-told .given .1) at (w .want-all .ensures .1 t (walking-wishes walking) (walking-rowed walking)) in
+    (w .want-all .ensures .0, s .pre .0, (t, walking-ranks walking, walking-counted walking _ met counts))
 
 finish-requires : tie.Need-finish-requires
 finish-requires c κs =
     let k = c .before .before in
-    let (t, walking) = k .before .before .before .before .before .before .before .before .before .before .before .before .before .before .before .pre .1 in
-    (k .take-all .ensures .0 .0, all-few walking, k .take-all .ensures .0 .1)
+    let (t, walking) = k .before .before .before .before .before .before .before .before .before .before .pre .1 in
+    (k .take-many .ensures .0 .0, all-few walking, k .take-many .ensures .0 .1)
 
 same-length : tie.Need-same-length
 same-length c = search needs
@@ -65,14 +54,12 @@ returns-2 : tie.Need-returns-2
 returns-2 c =
     let g = c .before .before in
     let k = g .before .before .before in
-    let o = k .before .before .before .before .before .before in
-    let e = o .before .before in
+    let e = k .before .before .before in
     let w = e .before .before in (
-      k .take-all .ensures .0 .1,
+      k .take-many .ensures .0 .1,
       λ t walking.
           let (met, counts) = rw (e .enum-told .given .1) at (w .want-all .ensures .1 t (walking-wishes walking) (walking-rowed walking)) in
-          g .finish .ensures t _
-          (walking-taken walking met _ _ (k .take-all .ensures .1 t (walking-prepared walking _ _ met counts (o .set-out .ensures)))),
+          g .finish .ensures t _ (k .take-many .ensures .1 t (walking-ranks walking) (walking-counted walking _ met counts)),
     )
 
 pub plan-many-spec : {M : Type 1} → statement M
@@ -84,9 +71,7 @@ plan-many-spec =
     enum-told-2
     unmet-requires
     returns
-    set-out-requires
-    name-all-requires
-    take-all-requires
+    take-many-requires
     finish-requires
     same-length
     returns-2)

@@ -1,98 +1,67 @@
--- `varying::report_few` meets its contract: the plans are kept apart, counted, and tallied into the rows.
+-- `varying::report_few` meets its contract: a condition off its walk bars every seed, else what comes before what is known for all.
 -- Assumes nothing.
-use Prim.Native.Nat.{ℕ}
-use native.Mathlib.Omega.{arith}
-use lib.ListN.{length-replicate}
+use mathlib.Core.Path.{refl}
+use Rattle.varying.proofs.Once.{entered-orderable, entered-once, off-comes}
 use borrow.Author.Needs.{needs}
-use Rattle.varying.proofs.Refilled.{total-within}
-use Rattle.varying.proofs.Alike.{as-many-plans, actions-kept}
-use Rattle.varying.proofs.Writing.{figures-apart}
 use Rattle.varying.proofs.report_few.Statement.{statement}
 use Rattle.varying.proofs.report_few.Tie as tie
 
-slice-aggregate-keep-all : tie.Need-slice-aggregate-keep-all
-slice-aggregate-keep-all c = search needs
-
-keep-all-requires : tie.Need-keep-all-requires
-keep-all-requires c κs =
+order-by-action-requires : tie.Need-order-by-action-requires
+order-by-action-requires c κs =
     let s = c .before .before .before .before in
-    let (t, planned) = s .pre .4 in (
-      s .pre .0,
-      s .pre .1,
-      s .pre .1 .few,
-      omega (arith, s .pre .2, total-within (planned .entered), length-replicate {A = ℕ} 4096 0),
-      s .pre .4,
-    )
+    let (t, entered) = s .pre .3 in
+    (refl, s .pre .2, (t, entered-orderable entered))
 
-slice-aggregate-different : tie.Need-slice-aggregate-different
-slice-aggregate-different c = search needs
+enum-known-found : tie.Need-enum-known-found
+enum-known-found c = search needs
 
-different-requires : tie.Need-different-requires
-different-requires c κs =
-    let k = c .before .before in
-    let s = k .before .before .before .before .before in
-    let (t, planned) = s .pre .4 in
-    (s .pre .1 .few, omega (arith, s .pre .2, total-within (planned .entered), length-replicate {A = ℕ} 4096 0, c .before .kept2 .given))
+enum-told : tie.Need-enum-told
+enum-told c = search needs
 
-cast-head : tie.Need-cast-head
-cast-head c = search needs
-
-cast-head-2 : tie.Need-cast-head-2
-cast-head-2 c = search needs
-
-head-requires : tie.Need-head-requires
-head-requires c κs = search needs
-
-slice-aggregate-rows-from : tie.Need-slice-aggregate-rows-from
-slice-aggregate-rows-from c = search needs
-
-rows-from-requires : tie.Need-rows-from-requires
-rows-from-requires c κs =
-    let h = c .before .before .before .before in
-    let k = h .before .before .before .before .before .before in
-    let s = k .before .before .before .before .before in
-    let (t, planned) = s .pre .4 in
-    let all = k .keep-all .ensures .1 t planned in (
-      s .pre .1 .few,
-      omega (
-        arith,
-        s .pre .2,
-        total-within (planned .entered),
-        length-replicate {A = ℕ} 4096 0,
-        h .before .before .before .before .before .kept2 .given,
-      ),
-      actions-kept all (planned .entered .actions .count) (planned .entered .lawful) (all .kept),
-      omega (arith, s .pre .3),
-    )
+all-refused-requires : tie.Need-all-refused-requires
+all-refused-requires c κs = search needs
 
 same-length : tie.Need-same-length
 same-length c = search needs
 
 returns : tie.Need-returns
-returns c t planned =
-    let r = c .before .before in
-    let h = r .before .before .before .before .before in
-    let d = h .before .before .before in
-    let k = d .before .before .before in
-    let s = k .before .before .before .before .before in
-    let all = k .keep-all .ensures .1 t planned in
-    figures-apart (planned .entered .actions .count) (s .pre .1 .some) all
-    (d .different .ensures .1 _ (as-many-plans all) (all .kept))
-    (h .head .ensures)
-    (r .rows-from .ensures _ (as-many-plans all) (all .kept))
+returns c =
+    let a = c .before .before in
+    let d = a .before .before in
+    let o = d .before .before in
+    let s = o .before .before .before .before .before in
+    λ t entered.
+    let off = rw (d .enum-told .given .1) at (o .order-by-action .ensures .1 t (entered-orderable entered)) in
+    a .all-refused .ensures t (s .args .e .first) _ (entered .lawful) (off-comes entered off _) refl
+
+report-ordered-requires : tie.Need-report-ordered-requires
+report-ordered-requires c κs =
+    let f = c .before .before .before .before in
+    let o = f .before .before in
+    let s = o .before .before .before .before .before in
+    let (t, entered) = s .pre .3 in
+    (s .pre .0, s .pre .1, s .pre .2, (t, entered-once entered (rw (f .found .given .1) at (o .order-by-action .ensures .1 t (entered-orderable entered)))))
+
+same-length-2 : tie.Need-same-length-2
+same-length-2 c = search needs
+
+returns-2 : tie.Need-returns-2
+returns-2 c =
+    let p = c .before .before in
+    let f = p .before .before .before .before .before in
+    let o = f .before .before in
+    λ t entered. p .report-ordered .ensures t (entered-once entered (rw (f .found .given .1) at (o .order-by-action .ensures .1 t (entered-orderable entered))))
 
 pub report-few-spec : {M : Type 1} → statement M
 report-few-spec =
     tie.close
     (tie.spec
-    slice-aggregate-keep-all
-    keep-all-requires
-    slice-aggregate-different
-    different-requires
-    cast-head
-    cast-head-2
-    head-requires
-    slice-aggregate-rows-from
-    rows-from-requires
+    order-by-action-requires
+    enum-known-found
+    enum-told
+    all-refused-requires
     same-length
-    returns)
+    returns
+    report-ordered-requires
+    same-length-2
+    returns-2)

@@ -1,12 +1,13 @@
 -- `varying::report_loaded` meets its contract: a variable with no walk bars every seed, else the walks are entered once for all.
 -- Assumes nothing.
 use mathlib.Core.Path.{refl}
-use borrow.Author.Needs.{needs}
+use native.Mathlib.Omega.{arith}
 use Rattle.draw.specs.Draw.{drawn}
 use Rattle.stages.proofs.Drawing.{drawn-fine}
 use Rattle.stages.proofs.Stages.{known-given, given-moves, given-starts, given-goals, given-traced}
-use Rattle.varying.proofs.Refilled.{known-entered}
+use Rattle.varying.proofs.Once.{known-entered}
 use Rattle.varying.proofs.Alike.{without-comes}
+use borrow.Author.Needs.{needs}
 use Rattle.varying.proofs.report_loaded.Statement.{statement}
 use Rattle.varying.proofs.report_loaded.Tie as tie
 
@@ -39,9 +40,9 @@ returns c t x known =
     let lowest = rw (d .enum-told .given .1) at (given-traced given (w .walk-all .ensures .1 t)) in
     a .all-refused .ensures t (s .args .first) _ (known .lawful) (without-comes (known .lawful) (s .args .first) lowest) refl
 
-report-walked-requires : tie.Need-report-walked-requires
-report-walked-requires c κs =
-    let d = c .before .before .before .before in
+report-many-requires : tie.Need-report-many-requires
+report-many-requires c κs =
+    let d = c .before .before .before .before .before in
     let w = d .before .before in
     let s = w .before .before .before .before .before in
     let (t, x, known) = s .pre .5 in
@@ -49,6 +50,7 @@ report-walked-requires c κs =
     let (rowed, (list, (members, counted))) = rw (d .walked .given .1) at (given-traced given (w .walk-all .ensures .1 t)) in (
       s .pre .0,
       record { low = s .pre .1; high = s .pre .4; some = s .pre .2; few = s .pre .3 },
+      c .before .before .before .if1 .taken,
       (t, known-entered _ known _ rowed list members counted),
     )
 
@@ -58,12 +60,39 @@ same-length-2 c = search needs
 returns-2 : tie.Need-returns-2
 returns-2 c t x known =
     let p = c .before .before in
-    let d = p .before .before .before .before .before in
+    let d = p .before .before .before .before .before .before in
     let w = d .before .before in
     let s = w .before .before .before .before .before in
     let given = known-given (drawn 1 (s .args .actions)) known (drawn-fine 1 (s .args .actions)) in
     let (rowed, (list, (members, counted))) = rw (d .walked .given .1) at (given-traced given (w .walk-all .ensures .1 t)) in
-    p .report-walked .ensures t (known-entered _ known _ rowed list members counted)
+    p .report-many .ensures t (known-entered _ known _ rowed list members counted)
+
+report-few-requires : tie.Need-report-few-requires
+report-few-requires c κs =
+    let d = c .before .before .before .before .before in
+    let w = d .before .before in
+    let s = w .before .before .before .before .before in
+    let (t, x, known) = s .pre .5 in
+    let given = known-given (drawn 1 (s .args .actions)) known (drawn-fine 1 (s .args .actions)) in
+    let (rowed, (list, (members, counted))) = rw (d .walked .given .1) at (given-traced given (w .walk-all .ensures .1 t)) in (
+      s .pre .0,
+      record { low = s .pre .1; high = s .pre .4; some = s .pre .2; few = s .pre .3 },
+      omega (arith, c .before .before .before .if1 .left),
+      (t, known-entered _ known _ rowed list members counted),
+    )
+
+same-length-3 : tie.Need-same-length-3
+same-length-3 c = search needs
+
+returns-3 : tie.Need-returns-3
+returns-3 c t x known =
+    let p = c .before .before in
+    let d = p .before .before .before .before .before .before in
+    let w = d .before .before in
+    let s = w .before .before .before .before .before in
+    let given = known-given (drawn 1 (s .args .actions)) known (drawn-fine 1 (s .args .actions)) in
+    let (rowed, (list, (members, counted))) = rw (d .walked .given .1) at (given-traced given (w .walk-all .ensures .1 t)) in
+    p .report-few .ensures t (known-entered _ known _ rowed list members counted)
 
 pub report-loaded-spec : {M : Type 1} → statement M
 report-loaded-spec =
@@ -75,6 +104,9 @@ report-loaded-spec =
     all-refused-requires
     same-length
     returns
-    report-walked-requires
+    report-many-requires
     same-length-2
-    returns-2)
+    returns-2
+    report-few-requires
+    same-length-3
+    returns-3)
