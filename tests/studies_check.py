@@ -1,15 +1,16 @@
 """Checks studies/: each NAME.bin is what bin/make-study makes of NAME.study, and each NAME.out what the oracle says that the
-program prints for NAME.bin; each NAME.names has these lines with the table's words; and bin/make-study itself: its
-mistakes, the refusals that it shows, --names and --show. It proves and builds the writer where that is still to be done.
-The last line is 'N passed, M failed'.
+program prints for NAME.bin, each NAME.explained what the explainer of tests/explain says; each NAME.names and NAME.why has these
+lines with the table's words; and bin/make-study itself: its mistakes, the refusals that it shows, --names and --show. It
+proves and builds the writer where that is still to be done. The last line is 'N passed, M failed'.
 
     python3 tests/studies_check.py             checks
-    python3 tests/studies_check.py --write     writes every NAME.bin, NAME.out and NAME.names anew, then checks
+    python3 tests/studies_check.py --write     writes every file but the tables anew, then checks
 """
 
 import importlib.util
 import json
 import random
+import re
 import subprocess
 import sys
 import tempfile
@@ -20,6 +21,7 @@ from pathlib import Path
 sys.dont_write_bytecode = True
 
 import oracle
+from explain import explainer
 
 ROOT = Path(__file__).resolve().parent.parent
 STUDIES = ROOT / "studies"
@@ -33,8 +35,15 @@ FIRST_LINES = {
     "hotel": "plan 20",
     "night-porter": "plan 6",
     "no-walk": "refused 10 1 255",
+    "cart-back": "refused 10 1 0",
+    "kerbside": "refused 10 0 255",
     "off-walk": "refused 11 1 2",
+    "wrong-badge": "refused 11 0 1",
     "ring": "refused 12 1 0",
+    "two-keys": "refused 12 0 0",
+    "airlock": "refused 12 1 0",
+    "doorman": "refused 12 0 0",
+    "linen-waits": "refused 12 0 0",
     "longest": "plan 256",
 }
 
@@ -43,6 +52,42 @@ IN_WORDS = ["porter", "hotel", "night-porter"]
 
 # The studies of which what bin/variety prints, for 64 seeds from 1, is stored.
 VARIED = ["porter", "hotel"]
+
+# The studies whose explanations are stored in words too: each kind of line is among them.
+WHY = ["porter", "night-porter", "no-walk", "cart-back", "wrong-badge", "doorman"]
+
+# Of each kind of line but a step's and the first, what its numbers are and its words: actions i and j, a variable v and its values
+# p and q; n is no name.
+LINES_IN_WORDS = {
+    "after next": ("nivq", "after {i}, which sets {v} = {q}: this leaves it"),
+    "after sets": ("nivq", "after {i}, which sets {v} = {q}: this wants it"),
+    "after leaves": ("nivq", "after {i}, which wants {v} = {q}: this leaves it"),
+    "goal": ("vq", "the goal is {v} = {q}"),
+    "set": ("vqip", "{i} sets {v} = {q} and leaves {p}"),
+    "unset": ("vq", "no action in force sets {v} = {q}"),
+    "round": ("vq", "this is back at {v} = {q}, and the start was not met"),
+    "wants": ("ivq", "{i} wants {v} = {q}, which is none of these:"),
+    "start": ("vq", "the start is {v} = {q}"),
+    "walk": ("vipq", "{i}: {v} {p} -> {q}"),
+    "ring next": ("ijvq", "{i} before {j}: it sets {v} = {q}, which {j} leaves"),
+    "ring sets": ("ijvq", "{i} before {j}: it sets {v} = {q}, which {j} wants"),
+    "ring leaves": ("ijvq", "{i} before {j}: it wants {v} = {q}, which {j} leaves"),
+}
+FIRST_IN_WORDS = {
+    "10": ("vq", "{v} has no walk: no action sets it to {q}"),
+    "10 255": ("vn", "{v} has no walk: its trace comes round"),
+    "11": ("iv", "{i} wants a value that {v} does not pass"),
+    "12": ("nn", "actions wait for each other in a ring; neither in a ring nor behind one: {n}"),
+}
+
+# The rules of each ring, in the order in which it is told.
+RINGS = {
+    "ring": ["sets", "sets"],
+    "two-keys": ["sets", "sets"],
+    "airlock": ["leaves", "leaves"],
+    "doorman": ["sets", "leaves", "sets", "next"],
+    "linen-waits": ["sets", "sets"],
+}
 
 HEAD = "variables\n  a: x, y\n  b: x, y, z\nactions\n"
 TAIL = "tasks\n  a x -> y\n  b x -> z\nseed 5\n"
@@ -198,11 +243,48 @@ def in_words(name):
     return "".join(f"{line}\n" for line in [first] + [f"{step}  {actions[int(step.split()[1])]}" for step in steps])
 
 
+def named(name, letters, numbers):
+    """What the numbers of a line are called, by letter. It is taken from the table's lines too."""
+    part = stored(name, ".study").decode().split("variables\n")[1].split("\nactions\n")[0]
+    variables = [line.strip().split(": ") for line in part.splitlines() if line.strip()]
+    found = dict(zip(reversed(letters), reversed(numbers)))  # of two without a name the first
+    for letter, number in found.items():
+        if letter in "ij":
+            found[letter] = actions_in_words(name)[number].split(":")[0]
+        elif letter in "pq":
+            found[letter] = variables[dict(zip(letters, numbers))["v"]][1].split(", ")[number]
+    return {**found, "v": variables[found["v"]][0]} if "v" in found else found
+
+
+def line_in_words(name, line):
+    words, numbers = [], []
+    for word in line.split():
+        (numbers if word.isdecimal() else words).append(word)
+    if words == ["plan"]:
+        return line
+    if not words:
+        return f"{line}  {actions_in_words(name)[int(numbers[1])]}"
+    if words == ["refused"]:
+        number = numbers.pop(0)
+        letters, form = FIRST_IN_WORDS[f"{number} 255" if numbers[1] == "255" else number]
+    else:
+        letters, form = LINES_IN_WORDS[" ".join(words)]
+    return f"{line}  {form.format(**named(name, letters, list(map(int, numbers))))}"
+
+
+def why(name):
+    """What bin/explain prints of a table."""
+    return "".join(f"{line_in_words(name, line)}\n" for line in stored(name, ".explained").decode().splitlines())
+
+
 def write_all():
     for name in FIRST_LINES:
         data = made(name)
         (STUDIES / f"{name}.bin").write_bytes(data)
         (STUDIES / f"{name}.out").write_text(oracle.printed(data))
+        (STUDIES / f"{name}.explained").write_text(explainer.explained(data))
+    for name in WHY:
+        (STUDIES / f"{name}.why").write_text(why(name))
     for name in IN_WORDS:
         (STUDIES / f"{name}.names").write_text(in_words(name))
     for name in VARIED:
@@ -213,6 +295,7 @@ def check_study(name, first_line):
     data, out = stored(name, ".bin"), stored(name, ".out").decode()
     expect(data == made(name), f"{name}.bin is not what bin/make-study makes")
     expect(out == oracle.printed(data), f"{name}.out is not what the oracle says")
+    expect(stored(name, ".explained").decode() == explainer.explained(data), f"{name}.explained is not what the explainer says")
     expect(out.split("\n")[0] == first_line, f"{name}.out does not begin with '{first_line}'")
     expect(oracle.check(data)[0][0] == 0, f"{name}.bin does not load")
 
@@ -221,15 +304,19 @@ def check_words(name):
     expect(stored(name, ".names").decode() == in_words(name), f"{name}.names is not {name}.out with the table's words")
 
 
+def check_why(name):
+    expect(stored(name, ".why").decode() == why(name), f"{name}.why is not {name}.explained with the table's words")
+
+
 def check_variety(name):
     expect(stored(name, ".variety").decode() == variety(name), f"{name}.variety is not what the oracle's report says")
 
 
 def check_folder():
     """Nothing is left over in the folder."""
-    named = {name + suffix for name in FIRST_LINES for suffix in (".study", ".bin", ".out")} - {"longest.study"}
-    named |= {f"{name}.names" for name in IN_WORDS} | {f"{name}.variety" for name in VARIED}
-    there = {path.name for path in STUDIES.iterdir() if path.suffix in (".study", ".bin", ".out", ".names", ".variety")}
+    named = {name + suffix for name in FIRST_LINES for suffix in (".study", ".bin", ".out", ".explained")} - {"longest.study"}
+    named |= {f"{name}.names" for name in IN_WORDS} | {f"{name}.variety" for name in VARIED} | {f"{name}.why" for name in WHY}
+    there = {path.name for path in STUDIES.iterdir()} - {"README.md"}
     expect(named == there, f"studies/ lacks {sorted(named - there)} or has {sorted(there - named)} too many")
 
 
@@ -248,6 +335,36 @@ def check_particulars():
     expect(steps == list(first), "hotel.out is not the first of all straight plans by the drawn ranks")
     firsts = {oracle.first_in_dictionary_order(plans, oracle.drawn(seed, len(hotel.actions))[0]) for seed in range(1, 21)}
     expect(len(firsts) > 10, f"20 seeds give the hotel {len(firsts)} plans only")
+
+
+def check_explanations():
+    """What the studies of refusals are there for."""
+    worked = {
+        "cart-back": oracle.porter((1, 0, 1), start=(0, 2, 0)),  # case 9
+        "two-keys": oracle.two_wanting(1),  # case 13
+        "airlock": oracle.two_wanting(0, more=True),
+        "kerbside": oracle.coming_round(),  # case 14
+    }
+    for name, data in worked.items():
+        expect(stored(name, ".bin") == data, f"{name}.bin is not the worked case")
+    rings = {name: [line.split()[1:] for line in stored(name, ".explained").decode().splitlines()[1:]] for name in RINGS}
+    for name, rules in RINGS.items():
+        expect([rule for rule, *_ in rings[name]] == rules, f"the ring of {name} is {rings[name]}")
+    lowest = min(explainer.stuck(oracle.read(stored("linen-waits", ".bin"))))
+    expect(str(lowest) not in [one for _, one, *_ in rings["linen-waits"]], "the ring of linen-waits has no tail")
+    lines = [line for name in WHY for line in stored(name, ".explained").decode().splitlines()]
+    kinds = {" ".join(word for word in line.split() if not word.isdecimal()) for line in lines}
+    expect(kinds == {*LINES_IN_WORDS, "plan", "refused", ""}, f"the explanations in words have the lines {sorted(kinds)}")
+    example = ROOT / "crates" / "explain"
+    expect((example / "stdin").read_bytes() == oracle.PORTER, "crates/explain/stdin is not the porter")
+    expect((example / "stdout").read_bytes() == stored("porter", ".explained"), "crates/explain/stdout is not its explanation")
+
+
+def check_pages():
+    """The explanations that the pages show are those of the studies."""
+    for page, names in {"README.md": ["ring"], "docs/EXPLAIN.md": ["porter", "doorman"]}.items():
+        shown = re.findall(r"```\n\$ bin/explain studies/(\S+)\.study\n(.*?)```", (ROOT / page).read_text(), re.DOTALL)
+        expect(shown == [(name, why(name)) for name in names], f"{page} does not show what bin/explain prints of {names}")
 
 
 def check_night_porter():
@@ -386,8 +503,12 @@ def main():
         attempt(check_words, name)
     for name in VARIED:
         attempt(check_variety, name)
+    for name in WHY:
+        attempt(check_why, name)
     attempt(check_folder)
     attempt(check_particulars)
+    attempt(check_explanations)
+    attempt(check_pages)
     attempt(check_night_porter)
     make_study = make_study_module()
     for check in (check_mistakes, check_refusals, check_refused_lines, check_order, check_shows):

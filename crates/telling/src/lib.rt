@@ -1,5 +1,5 @@
 // What the program prints of an answer: a refusal's line, or the lines of a plan.
-mod text;
+pub mod text;
 
 ghost use mathlib.Core.Path.{_≡_};
 ghost use Prim.Native.Nat.{_+_, _≤_, _<_};
@@ -38,7 +38,7 @@ pub fn plan(list: &[u8], acts: &[[u8; 6]; 256], out: &mut [u8]) -> usize
 }
 
 // The first line: 9 bytes at most.
-fn first(len: usize, out: &mut [u8]) -> usize
+pub fn first(len: usize, out: &mut [u8]) -> usize
     requires { ⌜ (len < 1000) × (9 ≤ length (now out)) ⌝ }
     ensures { λ r. ⌜ (r ≤ 9) × (take r (now (out .exit)) ≡ firstLine len) ⌝ }
 {
@@ -48,7 +48,7 @@ fn first(len: usize, out: &mut [u8]) -> usize
 }
 
 // A step's line: 20 bytes at most.
-fn step(out: &mut [u8], at: usize, k: usize, action: usize, var: u8, pre: u8, post: u8) -> usize
+pub fn step(out: &mut [u8], at: usize, k: usize, action: usize, var: u8, pre: u8, post: u8) -> usize
     requires { ⌜ (k < 1000) × (action < 1000) × (at + 20 ≤ length (now out)) ⌝ }
     ensures { λ r. ⌜ (r ≤ at + 20) × Appends (now (out .entry)) at (stepLine k action var pre post) (now (out .exit)) r ⌝ }
 {
@@ -69,7 +69,7 @@ fn brief(out: &mut [u8], at: usize, n: usize) -> usize
 }
 
 // A space and three digits at most.
-fn short(out: &mut [u8], at: usize, n: usize) -> usize
+pub fn short(out: &mut [u8], at: usize, n: usize) -> usize
     requires { ⌜ (n < 1000) × (at + 4 ≤ length (now out)) ⌝ }
     ensures { λ r. ⌜ (r ≤ at + 4) × Appends (now (out .entry)) at (spaced n) (now (out .exit)) r ⌝ }
 {

@@ -3,7 +3,7 @@ ghost use Prim.Native.Nat.{_+_, _≤_};
 ghost use lib.ListN.{length};
 ghost use Rattle.telling.specs.Text.{Appends, decimal, spaced as Text·spaced};
 
-pub(crate) fn put(out: &mut [u8], at: usize, bytes: &[u8]) -> usize
+pub fn put(out: &mut [u8], at: usize, bytes: &[u8]) -> usize
     requires { ⌜ at + length (now bytes) ≤ length (now out) ⌝ }
     ensures { λ r. ⌜ Appends (now (out .entry)) at (now (bytes .entry)) (now (out .exit)) r ⌝ }
 {
@@ -16,7 +16,7 @@ pub(crate) fn put(out: &mut [u8], at: usize, bytes: &[u8]) -> usize
 }
 
 // A number in decimal.
-pub(crate) fn number(out: &mut [u8], at: usize, n: u64) -> usize
+pub fn number(out: &mut [u8], at: usize, n: u64) -> usize
     requires { ⌜ at + length (decimal n) ≤ length (now out) ⌝ }
     ensures { λ r. ⌜ Appends (now (out .entry)) at (decimal n) (now (out .exit)) r ⌝ }
 {
@@ -26,7 +26,7 @@ pub(crate) fn number(out: &mut [u8], at: usize, n: u64) -> usize
 }
 
 // The same after a space.
-pub(crate) fn spaced(out: &mut [u8], at: usize, n: u64) -> usize
+pub fn spaced(out: &mut [u8], at: usize, n: u64) -> usize
     requires { ⌜ at + length (Text·spaced n) ≤ length (now out) ⌝ }
     ensures { λ r. ⌜ Appends (now (out .entry)) at (Text·spaced n) (now (out .exit)) r ⌝ }
 {

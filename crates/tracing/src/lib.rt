@@ -37,7 +37,7 @@ pub enum Walked {
     NoWalk { var: usize, value: u8 },
 }
 
-fn setter(setters: &[u8; 512], acts: &[[u8; 6]; 256], actions: usize, v: usize, q: u8) -> Named
+pub fn setter(setters: &[u8; 512], acts: &[[u8; 6]; 256], actions: usize, v: usize, q: u8) -> Named
     requires { ⌜ (v < 32) × (q < 16) × (actions ≤ 256) ⌝ }
     ensures { λ r. ⌜ ((t : Study) → MovesIn actions (now (setters .entry)) (now (acts .entry)) t → SetterIs t v q r) ⌝ }
 {

@@ -59,6 +59,18 @@ setter-tells situation k (a ∷ rest) v q =
         set-by {i = i} (record { at = suc (s .at); is = omega (arith, s .is); sets = sets-later situation a rest v q (s .at) .0 (s .sets) })
     later e (set-by-none no-one) = set-by-none (nobody e no-one)
 
+-- an action in force that sets a value is the one that is found for it, since no other does
+pub setter-of-usable :
+    {t : Study} → Lawful t → {v q : ℕ} (i : ℕ) → Usable t i → varOf t i ≡ v → postOf t i ≡ q → setterOf t v q ≡ some i
+setter-of-usable {t} lawful {v} {q} i usable var post = from (setter-tells (t .situation) 0 (t .actions) v q)
+  where
+    from : {o : Option ℕ} → Setter (t .situation) 0 (t .actions) v q o → o ≡ some i
+    from (set-by-none no-one) = absurd (no-one i (usable-sets usable var post))
+    from (set-by {i = j} b) =
+        let e : b .at ≡ i = one-setter lawful (b .at) i (setter-usable (b .sets)) usable (b .sets .var ∙ sym var) (b .sets .post ∙ sym post) in
+        let f : j ≡ i = omega (arith, b .is) in
+        ap some f
+
 -- ---- what a trace tells
 
 pub data Tells (t : Study) (v : ℕ) : Trace → Type 0 where
@@ -121,16 +133,7 @@ module _ (t : Study) (v : ℕ) where
         → tracedBack t v (suc n) (postOf t i) found ≡ tracedBack t v n (preOf t i) (i ∷ found)
     unfolding tracedBack
     goes-back n i found usable var off =
-        rw (ne-eqb (postOf t i) (startOf t v) off) (by-setter (setter-tells (t .situation) 0 (t .actions) v (postOf t i)))
-      where
-        by-setter :
-            {o : Option ℕ} → Setter (t .situation) 0 (t .actions) v (postOf t i) o
-            → backBy o (postOf t i) (λ j. tracedBack t v n (preOf t j) (j ∷ found)) ≡ tracedBack t v n (preOf t i) (i ∷ found)
-        by-setter (set-by-none no-one) = absurd (no-one i (usable-sets usable var refl))
-        by-setter (set-by {i = j} b) =
-            let e : b .at ≡ i = one-setter lawful (b .at) i (setter-usable (b .sets)) usable (b .sets .var ∙ sym var) (b .sets .post) in
-            let f : j ≡ i = omega (arith, b .is) in
-            rw f
+        rw (ne-eqb (postOf t i) (startOf t v) off, setter-of-usable lawful i usable var refl)
 
     pub way-traced : (n q : ℕ) (front found : List ℕ) → Way t v q front → length front < n → tracedBack t v n q found ≡ meets (front ++ found)
     way-traced zero q front found way h = absurd (omega arith)

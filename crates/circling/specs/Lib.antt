@@ -1,0 +1,3 @@
+pub mod Stranded
+pub mod Lowest
+pub mod Path

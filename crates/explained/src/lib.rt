@@ -1,0 +1,1 @@
+// What an explanation says of a study: mathematics alone.

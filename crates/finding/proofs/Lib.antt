@@ -1,0 +1,3 @@
+pub mod Backward
+pub mod Following
+pub mod Seeking

@@ -1,0 +1,5 @@
+pub mod Opened
+pub mod SetReasons
+pub mod Between
+pub mod Leavers
+pub mod Positions

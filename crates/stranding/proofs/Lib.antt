@@ -1,0 +1,4 @@
+pub mod Sets
+pub mod Gathering
+pub mod Stuck
+pub mod Counting

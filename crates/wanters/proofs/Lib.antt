@@ -1,0 +1,3 @@
+pub mod OneAction
+pub mod AllActions
+pub mod Fresh
