@@ -2,16 +2,10 @@
 ghost use mathlib.Core.Path.{_≡_};
 ghost use mathlib.Core.List.{List, [], _∷_, _++_};
 ghost use Prim.Native.Nat.{ℕ, _+_, _*_, _≤_, _<_};
-ghost use lib.Dec.{eqb};
 ghost use lib.ListN.{length, take, drop};
-ghost use Rattle.answer.specs.Answers.{refusal};
-ghost use Rattle.answer.specs.declared.Answer.{Answer as Told};
-ghost use Rattle.plain.specs.Choose.{pick};
 ghost use Rattle.study.specs.Study.{Study};
-ghost use Rattle.lawful.specs.Lawful.{Lawful};
 ghost use Rattle.draw.specs.Draw.{drawn};
 ghost use Rattle.handing.specs.Handing.{Taken};
-ghost use Rattle.varied.specs.Outcomes.{barred, ComesTo};
 ghost use Rattle.varied.specs.Report.{Reports};
 ghost use Rattle.tallying.specs.Kept.{RoomFor, Kept};
 ghost use Rattle.stages.specs.Whole.{KnownIn};
@@ -42,61 +36,6 @@ pub enum FirstSeed {
     Plans(usize),
 }
 
-fn numbers(number: u64, first: usize) -> Answer
-    ensures { λ r. ⌜ r ≡ refusal number first ⌝ }
-{
-    Answer {
-        number,
-        first: first as u64,
-        second: 0,
-    }
-}
-
-// The five figures: plans, refusals 10, 11 and 12, different plans.
-fn head(plans: u8, without: u8, off: u8, ringed: u8, different: u8, report: &mut [u8])
-    requires { ⌜ 5 ≤ length (now report) ⌝ }
-    ensures { λ _. ⌜ now (report .exit) ≡ plans ∷ without ∷ off ∷ ringed ∷ different ∷ drop 5 (now (report .entry)) ⌝ }
-{
-    report[0] = plans;
-    report[1] = without;
-    report[2] = off;
-    report[3] = ringed;
-    report[4] = different;
-}
-
-fn only(number: u64, counted: u64, seeds: usize) -> u8
-    requires { ⌜ seeds ≤ 64 ⌝ }
-    ensures { λ r. ⌜ r ≡ pick (eqb number counted) seeds 0 ⌝ }
-{
-    if number == counted {
-        return seeds as u8;
-    }
-    0
-}
-
-// All seeds are refused with this number.
-fn all_refused(number: u64, seeds: usize, report: &mut [u8]) -> Answer
-    requires { ⌜ seeds ≤ 64 ⌝ }
-    ensures { λ r. ⌜ ((t : Study) (first : ℕ) (a : Told)
-        → Lawful t
-        → ComesTo t first (barred a)
-        → a .number ≡ number
-        → Reports t first seeds (now (report .entry)) r (now (report .exit))) ⌝ }
-{
-    if report.len() < HEAD {
-        return numbers(13, HEAD);
-    }
-    head(
-        0,
-        only(number, 10, seeds),
-        only(number, 11, seeds),
-        only(number, 12, seeds),
-        0,
-        report,
-    );
-    numbers(0, HEAD)
-}
-
 // So many walk actions were taken with the first seed.
 fn judge_first(taken: usize, e: Extent, report: &mut [u8]) -> FirstSeed
     requires { ⌜ (e .seeds ≤ 64) × (e .actions * e .total ≤ 65536) ⌝ }
@@ -107,11 +46,11 @@ fn judge_first(taken: usize, e: Extent, report: &mut [u8]) -> FirstSeed
         → Judges t e room (now (report .entry)) (now (report .exit)) r) ⌝ }
 {
     if taken < e.total {
-        return FirstSeed::Settles(all_refused(12, e.seeds, report));
+        return FirstSeed::Settles(heading::all_refused(12, e.seeds, report));
     }
     let length = HEAD + e.actions * e.total;
     if report.len() < length {
-        return FirstSeed::Settles(numbers(13, length));
+        return FirstSeed::Settles(heading::numbers(13, length));
     }
     FirstSeed::Plans(length)
 }
@@ -237,7 +176,7 @@ fn count_few(e: Extent, members: u64, words: &[u64; 64], room: &mut [u8; 512], r
     let mut kept = [0u8; 4096];
     keep_few(e, members, words, room, &mut kept);
     let different = tallying::different(e.seeds, e.total, 0, 64, &kept);
-    head(e.seeds as u8, 0, 0, 0, different as u8, report);
+    heading::head(e.seeds as u8, 0, 0, 0, different as u8, report);
     tallying::rows_from(e.seeds, e.total, e.actions, &kept, report);
 }
 
@@ -261,7 +200,7 @@ fn count_many(
 {
     keep_many(file, e, acts, vars, steps, wants, room, report);
     let different = tallying::different(e.seeds, e.total, HEAD, e.actions, report);
-    head(e.seeds as u8, 0, 0, 0, different as u8, report);
+    heading::head(e.seeds as u8, 0, 0, 0, different as u8, report);
     tallying::rows_in_place(e.seeds, e.total, e.actions, report);
 }
 
@@ -284,7 +223,7 @@ fn report_ordered(
         FirstSeed::Settles(answer) => answer,
         FirstSeed::Plans(length) => {
             count_few(e, members, words, room, report);
-            numbers(0, length)
+            heading::numbers(0, length)
         }
     }
 }
@@ -312,7 +251,7 @@ fn report_counted(
         FirstSeed::Settles(answer) => answer,
         FirstSeed::Plans(length) => {
             count_many(file, e, acts, vars, steps, wants, room, report);
-            numbers(0, length)
+            heading::numbers(0, length)
         }
     }
 }
@@ -336,7 +275,7 @@ fn report_few(
     let mut words = [0u64; 64];
     let found = renaming::order_by_action(file, e.actions, acts, vars, setters, steps, &mut words);
     let Found::Members(members) = found else {
-        return all_refused(11, e.seeds, report);
+        return heading::all_refused(11, e.seeds, report);
     };
     report_ordered(e, members, &words, setters, report)
 }
@@ -360,7 +299,7 @@ fn report_many(
     let mut wants = [0u16; 512];
     let met = wanting::want_all(file, e.actions, acts, steps, &mut wants);
     let Met::All = met else {
-        return all_refused(11, e.seeds, report);
+        return heading::all_refused(11, e.seeds, report);
     };
     report_counted(file, e, acts, vars, steps, &wants, setters, report)
 }
@@ -386,7 +325,7 @@ pub fn report_loaded(
     let mut steps = [0u16; 512];
     let walked = tracing::walk_all(n, actions, acts, vars, setters, &mut steps);
     let Walked::All(total) = walked else {
-        return all_refused(10, seeds, report);
+        return heading::all_refused(10, seeds, report);
     };
     let e = Extent {
         first,

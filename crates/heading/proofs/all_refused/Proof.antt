@@ -1,11 +1,11 @@
--- `varying::all_refused` meets its contract: what one seed is refused with, each is.
+-- `heading::all_refused` meets its contract: what one seed is refused with, each is.
 -- Assumes nothing.
 use mathlib.Core.Path.{refl, _∙_}
 use native.Mathlib.Omega.{arith}
 use borrow.Author.Needs.{needs}
-use Rattle.varying.proofs.Writing.{refusedReport, writes-all, writes-none, barred-reports}
-use Rattle.varying.proofs.all_refused.Statement.{statement}
-use Rattle.varying.proofs.all_refused.Tie as tie
+use Rattle.heading.proofs.Writing.{refusedReport, writes-all, writes-none, barred-reports}
+use Rattle.heading.proofs.all_refused.Statement.{statement}
+use Rattle.heading.proofs.all_refused.Tie as tie
 
 numbers-requires : tie.Need-numbers-requires
 numbers-requires c κs = search needs

@@ -1,9 +1,9 @@
--- `varying::only` meets its contract.
+-- `heading::only` meets its contract.
 -- Assumes nothing.
 use borrow.Author.Tests.{eq-eqb, ne-eqb}
 use borrow.Author.Needs.{needs}
-use Rattle.varying.proofs.only.Statement.{statement}
-use Rattle.varying.proofs.only.Tie as tie
+use Rattle.heading.proofs.only.Statement.{statement}
+use Rattle.heading.proofs.only.Tie as tie
 
 cast-result : tie.Need-cast-result
 cast-result c = search needs

@@ -1,13 +1,13 @@
--- `varying::head` meets its contract: five bytes stored.
+-- `heading::head` meets its contract: five bytes stored.
 -- Assumes nothing.
 use native.Mathlib.Omega.{arith}
 use mathlib.Core.List.{List}
 use Prim.Native.Nat.{ℕ, _<_}
 use lib.ListN.{length, set, length-set}
 use borrow.Author.Needs.{needs}
-use Rattle.varying.proofs.Writing.{five-stored}
-use Rattle.varying.proofs.head.Statement.{statement}
-use Rattle.varying.proofs.head.Tie as tie
+use Rattle.heading.proofs.Writing.{five-stored}
+use Rattle.heading.proofs.head.Statement.{statement}
+use Rattle.heading.proofs.head.Tie as tie
 
 within : (l : List ℕ) (i x : ℕ) {k : ℕ} → k < length l → k < length (set l i x)
 within l i x h = rw (length-set l i x) h
