@@ -1,0 +1,1 @@
+// Orders joined by exchanges of neighbours: plain mathematics, no code.
