@@ -9,7 +9,7 @@ use lib.Dec.{eqb, eqb·zero-suc, eqb·suc-zero, eqb·suc-suc}
 use lib.Bits.{bitAnd, bitOr, bitXor, and-shr, or-shr, xor-shr, and-mod, or-mod, xor-mod}
 use lib.Count.{trailingZeros, under}
 use lib.Pow.{shl-exact}
-use Rattle.bits.specs.Bits.{bit, LowestBit}
+use Rattle.bits.specs.Bits.{bit, marked, LowestBit}
 
 -- what is to be shown of two numbers below 2
 both-digits : (P : ℕ → ℕ → Type 0) → P 0 0 → P 0 1 → P 1 0 → P 1 1 → (d e : ℕ) → d < 2 → e < 2 → P d e
@@ -86,13 +86,22 @@ bit-power (suc k) zero = bit-lowest (2 ^ suc k) ∙ rw (pow-suc 2 k, mul-mod-lef
 bit-power (suc k) (suc j) =
     bit-of-half (2 ^ suc k) j ∙ rw (pow-suc 2 k, mul-div-cancel (2 ^ k) {n = 2} (omega arith), eqb·suc-suc k j) (bit-power k j)
 
+-- x with bit k set has that bit besides its own
+pub bit-marked : (x k j : ℕ) → bit (marked x k) j ≡ (eqb k j || bit x j)
+unfolding marked
+bit-marked x k j = bit-put-in x (2 ^ k) j ∙ ap (λ (b : Bool). b || bit x j) (bit-power k j)
+
 -- one shifted has one bit, which is put into x, and taken out
 module _ (width k : ℕ) (h : k < width) where
-  bit-shifted : (j : ℕ) → bit (1 * 2 ^ k % 2 ^ width) j ≡ eqb k j
-  bit-shifted j = rw (shl-exact {a = 1} 1 k width (omega arith) (omega arith), one-mul (2 ^ k)) (bit-power k j)
+  shifted : 1 * 2 ^ k % 2 ^ width ≡ 2 ^ k
+  shifted = shl-exact {a = 1} 1 k width (omega arith) (omega arith) ∙ one-mul (2 ^ k)
 
-  pub one-put-in : (x j : ℕ) → bit (bitOr x (1 * 2 ^ k % 2 ^ width)) j ≡ (eqb k j || bit x j)
-  one-put-in x j = bit-put-in x _ j ∙ ap (λ (b : Bool). b || bit x j) (bit-shifted j)
+  bit-shifted : (j : ℕ) → bit (1 * 2 ^ k % 2 ^ width) j ≡ eqb k j
+  bit-shifted j = rw shifted (bit-power k j)
+
+  pub one-put-in : (x : ℕ) → bitOr x (1 * 2 ^ k % 2 ^ width) ≡ marked x k
+  unfolding marked
+  one-put-in x = rw shifted
 
   pub one-taken-out :
       (x j : ℕ) → bit (bitXor (bitOr x (1 * 2 ^ k % 2 ^ width)) (1 * 2 ^ k % 2 ^ width)) j ≡ (not (eqb k j) && bit x j)

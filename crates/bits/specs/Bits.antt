@@ -6,10 +6,15 @@ use mathlib.Core.Bool.{Bool, true, false, not, _&&_, _||_}
 use mathlib.Core.List.{List}
 use lib.Dec.{eqb}
 use lib.ListN.{length, getD}
+use lib.Bits.{bitOr}
 
 -- bit k of x is set
 unfoldable pub bit : ℕ → ℕ → Bool
 bit x k = eqb (x / 2 ^ k % 2) 1
+
+-- x with bit k set
+unfoldable pub marked : ℕ → ℕ → ℕ
+marked x k = bitOr x (2 ^ k)
 
 -- k is the lowest of the bits that are set in a word of so many
 pub record LowestBit (width x k : ℕ) : Type 0 where

@@ -4,7 +4,7 @@ ghost use mathlib.Core.Bool.{not, _&&_, _||_};
 ghost use Prim.Native.Nat.{ℕ, _<_};
 ghost use lib.Dec.{eqb};
 ghost use lib.ListN.{length};
-ghost use Rattle.bits.specs.Bits.{bit, within, LowestBit, Added, Removed, LeastMember};
+ghost use Rattle.bits.specs.Bits.{bit, marked, within, LowestBit, Added, Removed, LeastMember};
 
 // No number: what `least` answers for a set that has none.
 pub const NONE: u16 = 256;
@@ -17,12 +17,20 @@ pub fn holds(x: u64, k: u8) -> bool
     (x >> k) % 2 == 1
 }
 
-// x with bit k set.
+// x with bit k set: which number that is.
+pub fn mark(x: u64, k: u8) -> u64
+    requires { ⌜ k < 64 ⌝ }
+    ensures { λ r. ⌜ r ≡ marked x k ⌝ }
+{
+    x | (1u64 << k)
+}
+
+// x with bit k set: which bits it has.
 pub fn with_bit(x: u64, k: u8) -> u64
     requires { ⌜ k < 64 ⌝ }
     ensures { λ r. ⌜ ((j : ℕ) → bit r j ≡ (eqb k j || bit x j)) ⌝ }
 {
-    x | (1u64 << k)
+    mark(x, k)
 }
 
 // x with bit k not set.

@@ -42,6 +42,7 @@ fn judge_present(n: u8) -> Step
         above: 0,
         many: 0,
         seed: 0,
+        used: 0,
     };
     if n == 0 {
         return Step::On(p);

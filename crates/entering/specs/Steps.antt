@@ -5,7 +5,7 @@ use mathlib.Core.List.{List}
 use lib.Dec.{eqb}
 use lib.ListN.{set}
 use Rattle.plain.specs.Choose.{pick}
-use Rattle.bits.specs.Bits.{bit}
+use Rattle.bits.specs.Bits.{bit, marked}
 use Rattle.tables.specs.Tables.{ActionTables, actionTables}
 use Rattle.entering.specs.declared.Progress.{Progress}
 use Rattle.entering.specs.declared.Step.{Step}
@@ -26,6 +26,7 @@ afterVariable p next =
       above = p .above;
       many = p .many;
       seed = p .seed;
+      used = p .used;
     }
 
 abbrev pub afterAction : Progress → ℕ → ℕ → Progress
@@ -41,6 +42,7 @@ afterAction p v next =
       above = 0;
       many = 0;
       seed = p .seed;
+      used = marked (p .used) v;
     }
 
 abbrev pub afterCondition : Progress → ℕ → ℕ → Progress
@@ -56,6 +58,7 @@ afterCondition p v next =
       above = v + 1;
       many = p .many + 1;
       seed = p .seed;
+      used = marked (p .used) v;
     }
 
 abbrev pub afterTask : Progress → ℕ → Progress
@@ -71,6 +74,7 @@ afterTask p next =
       above = p .above;
       many = p .many;
       seed = p .seed;
+      used = p .used;
     }
 
 abbrev pub afterSeed : Progress → ℕ → ℕ → Progress
@@ -86,6 +90,7 @@ afterSeed p n next =
       above = p .above;
       many = p .many;
       seed = n;
+      used = p .used;
     }
 
 abbrev pub afterTimes : Progress → ℕ → Progress
@@ -101,6 +106,7 @@ afterTimes p next =
       above = p .above;
       many = p .many;
       seed = p .seed;
+      used = p .used;
     }
 
 abbrev pub afterPresent : Progress → ℕ → ℕ → Progress
@@ -116,6 +122,7 @@ afterPresent p n next =
       above = p .above;
       many = p .many;
       seed = p .seed;
+      used = p .used;
     }
 
 -- on, unless there is a fault

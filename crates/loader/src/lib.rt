@@ -52,6 +52,7 @@ fn conditions(file: &[u8], begin: Progress, rows: &[[u8; 3]; 32]) -> Progress
             above: v + 1,
             many: p.many + 1,
             seed: p.seed,
+            used: bits::mark(p.used, v),
         };
         p = next;
     }
@@ -145,6 +146,7 @@ pub fn load(
         above: 0,
         many: 0,
         seed: 0,
+        used: 0,
     };
     loop {
         let taken = pacing::step(file, p, acts, vars, setters);

@@ -1,14 +1,20 @@
 -- A record taken without fault: the counts and the numbers with its entry answer to the draft with it.
 -- Assumes nothing.
 use mathlib.Core.Path.{_≡_, refl, sym, ap, _∙_}
+use mathlib.Core.Bool.{Bool, _||_}
 use mathlib.Core.List.{List, []}
 use Prim.Native.Nat.{ℕ, _-_, _≤_}
 use native.Mathlib.Numerals.{add-one}
 use native.Mathlib.Omega.{arith}
+use lib.Dec.{eqb}
 use lib.ListN.{length, set, length-set}
 use borrow.Author.Tests.{le-leb}
+use Rattle.bits.specs.Bits.{bit, marked}
+use Rattle.bits.proofs.Words.{bit-marked}
 use Rattle.study.specs.Study.{Action, noAction, always}
 use Rattle.study.specs.Reading.{Draft, fault, with, drafted, variable, action, condition, task, seed, times, present, above, lastAction, withCondition, within}
+use Rattle.study.specs.Uses.{uses}
+use Rattle.study.proofs.Uses.{uses-with-action, uses-with-condition, uses-with-times}
 use Rattle.plain.proofs.Lists.{length-more}
 use Rattle.lawful.proofs.Faults.{faultless}
 use Rattle.entering.specs.declared.Progress.{Progress}
@@ -37,7 +43,13 @@ module _ {p : Progress} {counts : List ℕ} {d : Draft} (knows : Knows p counts 
     last = refl;
     own = knows .own;
     above = knows .above;
+    used = knows .used;
   }
+
+  -- a variable put into the set, and used besides
+  one-more-used :
+      (v z : ℕ) {after : Bool} → after ≡ (eqb v z || uses (d .study .actions) z) → bit (marked (p .used) v) z ≡ after
+  one-more-used v z is = bit-marked (p .used) v z ∙ rw (knows .used z) (sym is)
 
   pub action-known : (v x y : ℕ) → Knows (afterAction p v next) counts (drafted d (p .at) 2 (action v x y))
   unfolding with above
@@ -50,6 +62,7 @@ module _ {p : Progress} {counts : List ℕ} {d : Draft} (knows : Knows p counts 
         last = refl;
         own = sym (ap (λ a. a .var) last);
         above = λ z. rw (last, le-leb 0 z (omega arith));
+        used = λ z. one-more-used v z (uses-with-action (d .study) v x y z);
       }
     where
       new : Action
@@ -71,6 +84,7 @@ module _ {p : Progress} {counts : List ℕ} {d : Draft} (knows : Knows p counts 
     last = refl;
     own = knows .own ∙ sym (ap (λ a. a .var) last);
     above = λ z. rw (last, above-more (lastAction (d .study) .conditions) (record { var = v; value = q }) z, add-one);
+    used = λ z. one-more-used v z (uses-with-condition (d .study) (omega arith) v q z);
   }
     where
       last : lastAction (with (d .study) (condition v q)) ≡ withCondition (lastAction (d .study)) v q
@@ -86,6 +100,7 @@ module _ {p : Progress} {counts : List ℕ} {d : Draft} (knows : Knows p counts 
     last = refl;
     own = knows .own ∙ sym (ap (λ a. a .var) last);
     above = λ z. rw last (knows .above z);
+    used = λ z. knows .used z ∙ sym (uses-with-times (d .study) (omega arith) n z);
   }
     where
       last : lastAction (with (d .study) (times n)) ≡ within (lastAction (d .study)) n
@@ -101,6 +116,7 @@ module _ {p : Progress} {counts : List ℕ} {d : Draft} (knows : Knows p counts 
     last = refl;
     own = knows .own;
     above = knows .above;
+    used = knows .used;
   }
 
   pub seed-known : (n : ℕ) → Knows (afterSeed p n next) counts (drafted d (p .at) 5 (seed n))
@@ -113,6 +129,7 @@ module _ {p : Progress} {counts : List ℕ} {d : Draft} (knows : Knows p counts 
     last = refl;
     own = knows .own;
     above = knows .above;
+    used = knows .used;
   }
 
   pub present-known : (n : ℕ) → Knows (afterPresent p n next) counts (drafted d (p .at) 8 (present n))
@@ -125,4 +142,5 @@ module _ {p : Progress} {counts : List ℕ} {d : Draft} (knows : Knows p counts 
     last = refl;
     own = knows .own;
     above = knows .above;
+    used = knows .used;
   }

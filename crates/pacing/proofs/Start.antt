@@ -5,11 +5,13 @@ use mathlib.Core.List.{List}
 use Prim.Native.Nat.{ℕ}
 use native.Mathlib.Omega.{arith}
 use lib.Dec.{leb·zero}
+use Rattle.bits.proofs.Words.{bit-zero}
 use Rattle.study.specs.Reading.{blank, above}
+use Rattle.study.specs.Uses.{uses}
 use Rattle.pacing.specs.Reads.{Knows, origin}
 
 pub nothing-known : (counts : List ℕ) → Knows origin counts blank
-unfolding above
+unfolding above uses
 nothing-known counts =
     record {
       situation = refl;
@@ -19,4 +21,5 @@ nothing-known counts =
       last = refl;
       own = refl;
       above = λ v. leb·zero v;
+      used = λ v. bit-zero v;
     }

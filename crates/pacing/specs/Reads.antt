@@ -8,8 +8,10 @@ use mathlib.Core.List.{List}
 use lib.Dec.{leb}
 use lib.ListN.{length, getD}
 use Rattle.plain.specs.Choose.{pick}
+use Rattle.bits.specs.Bits.{bit}
 use Rattle.study.specs.Study.{Study}
 use Rattle.study.specs.Reading.{says, refused, Draft, Verdict, settled, onward, lastAction, above, mayFollow, readOn, reading}
+use Rattle.study.specs.Uses.{uses}
 use Rattle.records.specs.declared.Found.{Found}
 use Rattle.records.specs.declared.Found.the-variants.{There, Unknown, Cut, Ended}
 use Rattle.tables.specs.Tables.{Tables, Sized, HoldsCounts, HoldsActions, HoldsTasks, Holds}
@@ -30,7 +32,7 @@ seedOf a b c d = ((a * 256 + b) * 256 + c) * 256 + d
 
 -- before the first record
 abbrev pub origin : Progress
-origin = record { at = 0; situation = 0; vars = 0; actions = 0; tasks = 0; last = 0; own = 0; above = 0; many = 0; seed = 0 }
+origin = record { at = 0; situation = 0; vars = 0; actions = 0; tasks = 0; last = 0; own = 0; above = 0; many = 0; seed = 0; used = 0 }
 
 -- what keeps every index and every sum in range, wherever the bytes come from
 pub record Bounds (p : Progress) (counts : List ℕ) : Type 0 where
@@ -60,6 +62,7 @@ pub record Knows (p : Progress) (table : List ℕ) (d : Draft) : Type 0 where
   pub last : p .last ≡ d .last
   pub own : p .own ≡ lastAction (d .study) .var
   pub above : (v : ℕ) → leb (p .above) v ≡ above (lastAction (d .study) .conditions) v
+  pub used : (v : ℕ) → bit (p .used) v ≡ uses (d .study .actions) v
 
 -- .. and so do all the tables, and the place
 pub record Stands (file : List ℕ) (p : Progress) (t : Tables) (d : Draft) : Type 0 where

@@ -3,3 +3,4 @@ pub mod Repeats
 pub mod Verdicts
 pub mod Readings
 pub mod Refusals
+pub mod Uses

@@ -1,2 +1,3 @@
 pub mod Study
 pub mod Reading
+pub mod Uses

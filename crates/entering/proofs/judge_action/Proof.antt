@@ -17,8 +17,11 @@ returns c = rw (← c .before .action-fault .ensures, ne-eqb _ 0 (c .if1 .taken)
 add-t9 : tie.Need-add-t9
 add-t9 c = omega (arith, action-bounds _ (sym (c .before .before .action-fault .ensures) ∙ c .before .if1 .left) .0)
 
+mark-requires : tie.Need-mark-requires
+mark-requires c κs = omega (arith, action-bounds _ (sym (c .before .before .action-fault .ensures) ∙ c .before .if1 .left) .1)
+
 returns-2 : tie.Need-returns-2
-returns-2 c = rw (← c .before .before .action-fault .ensures, eq-eqb _ 0 (c .before .if1 .left)) refl
+returns-2 c = rw (← c .before .before .before .action-fault .ensures, eq-eqb _ 0 (c .before .before .if1 .left)) (rw (c .mark .ensures) refl)
 
 pub judge-action-spec : {M : Type 1} → statement M
-judge-action-spec = tie.close (tie.spec action-fault-requires returns add-t9 returns-2)
+judge-action-spec = tie.close (tie.spec action-fault-requires returns add-t9 mark-requires returns-2)

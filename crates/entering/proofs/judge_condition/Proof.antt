@@ -20,9 +20,12 @@ add-t8 c = omega (arith, condition-bounds _ (sym (c .before .condition-fault .en
 add-t9 : tie.Need-add-t9
 add-t9 c = search needs
 
+mark-requires : tie.Need-mark-requires
+mark-requires c κs = omega (arith, condition-bounds _ (sym (c .before .before .condition-fault .ensures) ∙ c .before .if1 .left) .0)
+
 returns-2 : tie.Need-returns-2
-returns-2 c = rw (← c .before .before .condition-fault .ensures, eq-eqb _ 0 (c .before .if1 .left)) refl
+returns-2 c = rw (← c .before .before .before .condition-fault .ensures, eq-eqb _ 0 (c .before .before .if1 .left)) (rw (c .mark .ensures) refl)
 
 pub judge-condition-spec : {M : Type 1} → statement M
 judge-condition-spec =
-    tie.close (tie.spec condition-fault-requires returns add-t8 add-t9 returns-2)
+    tie.close (tie.spec condition-fault-requires returns add-t8 add-t9 mark-requires returns-2)

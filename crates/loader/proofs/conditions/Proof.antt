@@ -83,14 +83,20 @@ add-t14 c =
     let b = c .before .before .before .before .before .before .before .loop .inv .0 .bounds in
     omega (arith, b .fewer, b .low)
 
+mark-requires : tie.Need-mark-requires Inv-loop μ-loop
+mark-requires c κs =
+    let b = c .before .before .before .before .before .before .before .loop .inv .0 .bounds in
+    omega (arith, condition-bounds _ (sym (c .before .before .condition-fault .ensures) ∙ c .before .if2 .left), b .few-vars)
+
 loop-less : tie.Need-loop-less Inv-loop μ-loop
-loop-less c = omega (arith, inside (c .before .before .before .before .before))
+loop-less c = omega (arith, inside (c .before .before .before .before .before .before))
 
 loop-again : tie.Need-loop-again Inv-loop μ-loop
 loop-again c =
-    let (safe, ((low, high, further), reached)) = c .before .before .before .before .before .before .before .loop .inv in
-    let good = sym (c .before .before .condition-fault .ensures) ∙ c .before .if2 .left in
-    let e = c .before .before .before .before .before in (
+    let (safe, ((low, high, further), reached)) = c .before .before .before .before .before .before .before .before .loop .inv in
+    let good = sym (c .before .before .before .condition-fault .ensures) ∙ c .before .before .if2 .left in
+    let e = c .before .before .before .before .before .before in
+    rw (c .mark .ensures) (
       record { inside = inside e; bounds = condition-kept (safe .bounds) _ _ _ good low high refl },
       (
         (omega arith, omega arith, omega arith),
@@ -116,5 +122,6 @@ conditions-spec =
     add-t10
     add-t12
     add-t14
+    mark-requires
     loop-less
     loop-again)
