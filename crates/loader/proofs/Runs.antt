@@ -1,24 +1,25 @@
--- Runs of records that are taken one after another: actions, each with its conditions and its situations.
+-- Runs of records that are taken one after another: variables, actions, each with its conditions and its situations, and tasks.
 -- Assumes nothing.
-use mathlib.Core.Path.{_≡_, sym}
-use mathlib.Core.Bool.{true}
+use mathlib.Core.Path.{_≡_, refl, sym}
+use mathlib.Core.Bool.{Bool, true}
 use mathlib.Core.List.{List}
-use Prim.Native.Nat.{ℕ, _+_, _-_, _/_, _%_, _≤_}
+use Prim.Native.Nat.{ℕ, _+_, _-_, _/_, _%_, _≤_, _<_}
 use native.Mathlib.Omega.{arith}
 use lib.Dec.{eqb, ltb}
 use lib.ListN.{getD, set}
 use lib.Seq.{set-set, set-getD}
+use borrow.Author.Tests.{lt-ltb}
 use Rattle.records.specs.Records.{recordAt}
 use Rattle.records.specs.declared.Found.the-variants.{There}
 use Rattle.study.specs.Reading.{mayFollow}
 use Rattle.tables.specs.Tables.{ActionTables, Tables, tables}
-use Rattle.judging.specs.Faults.{actionFault, conditionFault, timesFault}
+use Rattle.judging.specs.Faults.{variableFault, actionFault, conditionFault, taskFault, timesFault}
 use Rattle.entering.specs.declared.Progress.{Progress}
 use Rattle.entering.specs.declared.Step.the-variants.{On}
-use Rattle.entering.specs.Steps.{withMany, storedMany, storedAction, outBy, afterAction, afterCondition, afterTimes}
+use Rattle.entering.specs.Steps.{withMany, stored, storedMany, storedAction, outBy, afterVariable, afterAction, afterCondition, afterTask, afterTimes}
 use Rattle.pacing.specs.Reads.{Safe}
 use Rattle.loader.specs.Halfway.{Halfway}
-use Rattle.pacing.proofs.Arms.{Answers, may-condition, may-times, action-arm, condition-arm, times-arm}
+use Rattle.pacing.proofs.Arms.{Answers, may-condition, may-times, variable-arm, action-arm, condition-arm, task-arm, times-arm}
 use Rattle.loader.proofs.Pass.{goes-on}
 
 -- the conditions of the last action: the tables are told of with their number entered, though it is entered only after the last of them
@@ -82,3 +83,43 @@ action-taken file p t safe may there v x y ev ex ey f ef good =
     let second : p .at + 1 + 1 ≡ p .at + 2 = omega arith in
     let third : p .at + 1 + 2 ≡ p .at + 3 = omega arith in
     rw good (rw good at (action-arm file p (p .at + 1) (p .at + 4) t safe (rw next at there) may v x y ev (rw second ex) (rw third ey) f ef))
+
+may-variable : (left : Bool) {last : ℕ} → last ≡ 1 → mayFollow left last 1 ≡ true
+unfolding mayFollow
+may-variable left e = rw e refl
+
+may-task : {left : Bool} {last : ℕ} → last ≡ 4 → left ≡ true → mayFollow left last 4 ≡ true
+unfolding mayFollow
+may-task e l = rw (e, l) refl
+
+-- a variable after a variable, without fault
+pub variable-taken :
+    (file : List ℕ) (p : Progress) (t : Tables)
+    → Safe file p (t .counts)
+    → p .last ≡ 1
+    → recordAt file (p .at) ≡ There 1 (p .at + 1) (p .at + 1 + 1)
+    → (n : ℕ) → n ≡ getD file (p .at + 1) 0
+    → eqb (variableFault (p .vars) n) 0 ≡ true
+    → Answers file p t (tables (stored (variableFault (p .vars) n) (t .counts) (p .vars) n) (t .acts) (t .starts) (t .goals)) (On (afterVariable p (p .at + 2)))
+variable-taken file p t safe last there n en good =
+    let next : p .at + 1 + 1 ≡ p .at + 2 = omega arith in
+    rw good (rw good at (variable-arm file p (p .at + 1) (p .at + 2) t safe (rw next at there) (may-variable _ last) n en))
+
+-- a task after a task, without fault, where a variable is left
+pub task-taken :
+    (file : List ℕ) (p : Progress) (t : Tables)
+    → Safe file p (t .counts)
+    → p .last ≡ 4
+    → p .tasks < p .vars
+    → recordAt file (p .at) ≡ There 4 (p .at + 1) (p .at + 1 + 3)
+    → (v x y : ℕ) → v ≡ getD file (p .at + 1) 0 → x ≡ getD file (p .at + 2) 0 → y ≡ getD file (p .at + 3) 0
+    → (f : ℕ) → f ≡ taskFault (t .counts) (p .vars) (p .tasks) v x y
+    → eqb f 0 ≡ true
+    → Answers file p t (tables (t .counts) (t .acts) (stored f (t .starts) v x) (stored f (t .goals) v y)) (On (afterTask p (p .at + 4)))
+task-taken file p t safe last left there v x y ev ex ey f ef good =
+    let next : p .at + 1 + 3 ≡ p .at + 4 = omega arith in
+    let second : p .at + 1 + 1 ≡ p .at + 2 = omega arith in
+    let third : p .at + 1 + 2 ≡ p .at + 3 = omega arith in
+    rw good
+    (rw good at
+    (task-arm file p (p .at + 1) (p .at + 4) t safe (rw next at there) (may-task last (lt-ltb (p .tasks) (p .vars) left)) v x y ev (rw second ex) (rw third ey) f ef))

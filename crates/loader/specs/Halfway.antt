@@ -3,7 +3,8 @@
 use Prim.Native.Nat.{ℕ}
 use mathlib.Core.List.{List}
 use Rattle.study.specs.Reading.{Draft}
-use Rattle.tables.specs.Tables.{Tables}
+use Rattle.tables.specs.Tables.{ActionTables, Tables, tables}
+use Rattle.tables.specs.Rows.{Row, countColumn, startColumn, goalColumn}
 use Rattle.entering.specs.declared.Progress.{Progress}
 use Rattle.pacing.specs.Reads.{Stands, Reached}
 
@@ -12,3 +13,7 @@ pub record Halfway (file : List ℕ) (t : Tables) (p : Progress) : Type 0 where
   pub draft : Draft
   pub reached : Reached file (p .at) draft
   pub stands : Stands file p t draft
+
+-- the rows of the variables, beside any tables of actions
+abbrev pub beside : List Row → ActionTables → Tables
+beside rows acts = tables (countColumn rows) acts (startColumn rows) (goalColumn rows)

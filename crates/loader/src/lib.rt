@@ -9,14 +9,18 @@ ghost use Rattle.tables.specs.Tables.{ActionTables, tables, Sized, Loads};
 ghost use Rattle.entering.specs.Steps.{withMany};
 ghost use Rattle.tables.specs.Rows.{countColumn, seenAll};
 ghost use Rattle.pacing.specs.Reads.{Safe};
-ghost use Rattle.loader.specs.Halfway.{Halfway};
+ghost use Rattle.loader.specs.Halfway.{Halfway, beside};
 use entering::Progress;
 use entering::Step;
 use tables::Loaded;
 
+const VARIABLE: u8 = 1;
+
 const ACTION: u8 = 2;
 
 const CONDITION: u8 = 3;
+
+const TASK: u8 = 4;
 
 const SITUATIONS: u8 = 7;
 
@@ -124,6 +128,60 @@ fn actions(
     }
 }
 
+// After a variable, variables that have no fault one after another. Whatever comes then is left to the general step.
+fn variables(file: &[u8], begin: Progress, rows: &mut [[u8; 3]; 32]) -> Progress
+    requires { ⌜ Safe (now file) begin (countColumn (now rows)) ⌝ }
+    ensures { λ r. ⌜ Safe (now (file .entry)) r (countColumn (now (rows .exit))) × (begin .at ≤ r .at) ⌝ }
+    ensures { λ r. ⌜ ((acts : ActionTables)
+        → Halfway (now (file .entry)) (beside (now (rows .entry)) acts) begin
+        → Halfway (now (file .entry)) (beside (now (rows .exit)) acts) r) ⌝ }
+{
+    if begin.last != VARIABLE {
+        return begin;
+    }
+    let mut p = begin;
+    loop {
+        let at = p.at;
+        if !records::is_at(file, at, VARIABLE, 1) {
+            return p;
+        }
+        let step = entering::on_variable(p, file[at + 1], at + 2, rows);
+        let Step::On(next) = step else {
+            return p;
+        };
+        p = next;
+    }
+}
+
+// After a task, tasks that have no fault one after another, while a variable is left. Whatever comes then is left to the
+// general step.
+fn tasks(file: &[u8], begin: Progress, rows: &mut [[u8; 3]; 32]) -> Progress
+    requires { ⌜ Safe (now file) begin (countColumn (now rows)) ⌝ }
+    ensures { λ r. ⌜ Safe (now (file .entry)) r (countColumn (now (rows .exit))) × (begin .at ≤ r .at) ⌝ }
+    ensures { λ r. ⌜ ((acts : ActionTables)
+        → Halfway (now (file .entry)) (beside (now (rows .entry)) acts) begin
+        → Halfway (now (file .entry)) (beside (now (rows .exit)) acts) r) ⌝ }
+{
+    if begin.last != TASK {
+        return begin;
+    }
+    let mut p = begin;
+    loop {
+        let at = p.at;
+        if p.vars <= p.tasks {
+            return p;
+        }
+        if !records::is_at(file, at, TASK, 3) {
+            return p;
+        }
+        let step = entering::on_task(p, file[at + 1], file[at + 2], file[at + 3], at + 4, rows);
+        let Step::On(next) = step else {
+            return p;
+        };
+        p = next;
+    }
+}
+
 // Fills the tables by one pass over the file. They may hold anything before: no entry is believed that was not written.
 // `Sized` says of the tables what their types say; a function is not told the length of an array that it is lent.
 pub fn load(
@@ -152,7 +210,9 @@ pub fn load(
         let taken = pacing::step(file, p, acts, vars, setters);
         match taken {
             Step::On(next) => {
-                p = actions(file, next, acts, vars);
+                let read = variables(file, next, vars);
+                let acted = actions(file, read, acts, vars);
+                p = tasks(file, acted, vars);
             }
             Step::Refused { number, place } => {
                 return Loaded::Refused { number, place };

@@ -1,4 +1,4 @@
--- `loader::load` meets its contract: each turn takes one record, and after an action what belongs to it and the actions that follow, further down the file, and what is still to be read goes on from there.
+-- `loader::load` meets its contract: each turn takes one record, and the variables, actions or tasks that follow one, further down the file, and what is still to be read goes on from there.
 -- Assumes nothing.
 use Prim.Native.Nat.{_-_}
 use native.Mathlib.Omega.{arith}
@@ -29,19 +29,31 @@ step-requires c κs = c .before .before .before .loop .inv .0
 enum-known-taken : tie.Need-enum-known-taken Inv-loop μ-loop
 enum-known-taken c = search needs
 
+variables-requires : tie.Need-variables-requires Inv-loop μ-loop
+variables-requires c κs = (rw (c .before .before .taken .given .1) at (c .before .before .before .before .step .ensures .0)) .1
+
 actions-requires : tie.Need-actions-requires Inv-loop μ-loop
-actions-requires c κs = (rw (c .before .before .before .taken .given .1) at (c .before .before .before .before .before .step .ensures .0)) .1
+actions-requires c κs = c .before .before .variables .ensures .0 .0
+
+tasks-requires : tie.Need-tasks-requires Inv-loop μ-loop
+tasks-requires c κs = c .before .actions .ensures .0 .0
 
 loop-less : tie.Need-loop-less Inv-loop μ-loop
 loop-less c =
-    let f = rw (c .before .before .before .before .taken .given .1) at (c .before .before .before .before .before .before .step .ensures .0) in
-    omega (arith, f .0, c .actions .ensures .0 .1, c .actions .ensures .0 .0 .inside)
+    let a = c .before .before in
+    let v = a .before .before .before in
+    let f = rw (v .before .before .before .taken .given .1) at (v .before .before .before .before .before .step .ensures .0) in
+    omega (arith, f .0, v .variables .ensures .0 .1, a .actions .ensures .0 .1, c .tasks .ensures .0 .1, c .tasks .ensures .0 .0 .inside)
 
 loop-again : tie.Need-loop-again Inv-loop μ-loop
 loop-again c =
-    let i = c .before .before .before .before .before .before .before .before .before .before .loop .inv in
-    let a = rw (c .before .before .before .before .taken .given .1) at (c .before .before .before .before .before .before .step .ensures) in
-    (c .actions .ensures .0 .0, λ sized. c .actions .ensures .1 _ (goes-on (i .0) (i .1 sized) a))
+    let a = c .before .before in
+    let v = a .before .before .before in
+    let i = v .before .before .before .before .before .before .before .before .before .loop .inv in
+    let s = rw (v .before .before .before .taken .given .1) at (v .before .before .before .before .before .step .ensures) in (
+      c .tasks .ensures .0 .0,
+      λ sized. c .tasks .ensures .1 _ (a .actions .ensures .1 _ (v .variables .ensures .1 _ (goes-on (i .0) (i .1 sized) s))),
+    )
 
 enum-known-taken-2 : tie.Need-enum-known-taken-2 Inv-loop μ-loop
 enum-known-taken-2 c = search needs
@@ -68,7 +80,9 @@ load-spec =
     loop-holds
     step-requires
     enum-known-taken
+    variables-requires
     actions-requires
+    tasks-requires
     loop-less
     loop-again
     enum-known-taken-2
