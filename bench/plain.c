@@ -15,6 +15,9 @@ typedef marrowkite_answer answer;
 static answer three(uint64_t number, uint64_t first, uint64_t second) { return (answer){number, first, second}; }
 static answer refused(uint64_t number, uint64_t first) { return three(number, first, 0); }
 
+/* The lowest variable whose bit is not set, or 32 and more. */
+static unsigned lowest_unused(uint32_t used) { return (unsigned)__builtin_ctzll(~(uint64_t)used); }
+
 /* What a file says. `set` and `setter` tell for each variable which values some action in force sets, and which action. */
 typedef struct {
   unsigned variables, actions;
@@ -35,6 +38,7 @@ static answer misplaced(const uint8_t *f, size_t len, size_t at) {
 /* One function, since cut up into the sections it executed 3 % more. */
 static answer load(const uint8_t *f, size_t len, study *s) {
   size_t at = 0, repeat = 0;
+  uint32_t used = 0;
   unsigned n = 0, a = 0, situation = 0;
   if (len > 0 && f[0] == SITUATION) {
     if (len < 2) return refused(1, 0);
@@ -59,6 +63,7 @@ static answer load(const uint8_t *f, size_t len, study *s) {
     if (v >= n || p >= s->counts[v] || q >= s->counts[v]) return refused(5, at);
     if (p == q) return refused(6, at);
     size_t place = at;
+    used |= 1u << v;
     s->variable[a] = (uint8_t)v;
     s->pre[a] = (uint8_t)p;
     s->post[a] = (uint8_t)q;
@@ -68,6 +73,7 @@ static answer load(const uint8_t *f, size_t len, study *s) {
       unsigned u = f[at + 1];
       if (u >= n || f[at + 2] >= s->counts[u]) return refused(5, at);
       if (u == v || u < above) return refused(6, at);
+      used |= 1u << u;
       above = u + 1;
     }
     s->end[a] = (uint16_t)at;
@@ -99,6 +105,7 @@ static answer load(const uint8_t *f, size_t len, study *s) {
   at += 5;
   if (at >= len || f[at] != END) return misplaced(f, len, at);
   if (repeat != 0) return refused(7, repeat);
+  if (lowest_unused(used) < n) return refused(21, lowest_unused(used));
   if (++at < len) return refused(8, at);
   s->variables = n;
   s->actions = a;
@@ -434,6 +441,7 @@ typedef struct {
  * from how many of each kind come before it. */
 PART answer judge(const lists *l) {
   uint16_t set[MOST_VARIABLES];
+  uint32_t named = 0;
   size_t n = l->variables, used = 0, i = 0, a = 0, t = 0, repeat = 0;
   if (l->situation > 7) return refused(5, 0);
   size_t front = l->situation != 0 ? 2 : 0;
@@ -452,6 +460,7 @@ PART answer judge(const lists *l) {
     unsigned v = entry[0], p = entry[1], q = entry[2], above = 0;
     if (v >= n || p >= counts[v] || q >= counts[v]) return refused(5, place + 3 * used / 2);
     if (p == q) return refused(6, place + 3 * used / 2);
+    named |= 1u << v;
     if (entry[3] >> l->situation & 1) {
       if (set[v] >> q & 1 && repeat == 0) repeat = place + 3 * used / 2;
       set[v] |= (uint16_t)(1u << q);
@@ -462,6 +471,7 @@ PART answer judge(const lists *l) {
       unsigned u = c[used];
       if (u >= n || c[used + 1] >= counts[u]) return refused(5, place + 4 + 3 * used / 2);
       if (u == v || u < above) return refused(6, place + 4 + 3 * used / 2);
+      named |= 1u << u;
       above = u + 1;
     }
     if (used < end) return refused(5, place + 4 + 3 * used / 2);
@@ -478,6 +488,7 @@ PART answer judge(const lists *l) {
   if (t < n) return refused(3, at);
   if (l->seed - 1 >= LARGEST_SEED) return refused(5, at);
   if (repeat != 0) return refused(7, repeat);
+  if (lowest_unused(named) < n) return refused(21, lowest_unused(named));
   return three(0, at + 6, 0);
 }
 

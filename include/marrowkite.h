@@ -21,7 +21,9 @@
  *    6  an action whose pre equals its post; a condition on the action's own variable; a condition whose variable
  *       is not above that of the condition before it; a written situation of 0; a written set of all eight
  *    7  an action in force sets what an earlier one in force sets first: offset of the earliest such action; told at
- *                                                                 the end record, after every other fault but 8
+ *                                                                 the end record, after every fault of a record
+ *   21  no action changes the variable and no condition names it,
+ *       in force or not                                           first: the lowest such variable; told after 7
  *    8  a byte follows the end record                             first: its offset
  *
  *       the rank list
@@ -100,15 +102,15 @@ typedef struct { uint64_t number, first, second; } marrowkite_answer;
 typedef struct { uint64_t number, kind, start, len, next; } marrowkite_record;
 
 /*
- * Checks a file: 1 to 8. The first faulty record decides, and its faults are looked for in the order 2, 3, 1, 4, 5, 6; the
- * end record tells 7, then 8.
+ * Checks a file: 1 to 8 and 21. The first faulty record decides, and its faults are looked for in the order 2, 3, 1, 4, 5, 6;
+ * the end record tells 7, then 21, then 8.
  * Done: first is how many actions the file has, second how many variables.
  */
 marrowkite_answer marrowkite_check(const uint8_t *file, size_t file_len);
 
 /*
  * Plans with a rank list, one entry for each action: of all straight plans the one whose list of ranks is smallest at
- * the first place where they differ. 1 to 8, then 9 (the length first), 10, 11, 12, 13.
+ * the first place where they differ. 1 to 8 and 21, then 9 (the length first), 10, 11, 12, 13.
  * Done: first is the plan's length; the plan, one byte for each action, fills the first bytes of `plan`. 256 bytes are
  * always enough.
  */
@@ -121,8 +123,8 @@ marrowkite_answer marrowkite_plan(const uint8_t *file, size_t file_len, const ui
 marrowkite_answer marrowkite_plan_seeded(const uint8_t *file, size_t file_len, uint8_t *plan, size_t plan_len);
 
 /*
- * Runs a plan from the file's start: 1 to 8, then 13, then step by step 14, 20, 15, 16, then 17. 0 exactly if the list is
- * a straight plan.
+ * Runs a plan from the file's start: 1 to 8 and 21, then 13, then step by step 14, 20, 15, 16, then 17. 0 exactly if the
+ * list is a straight plan.
  * Done: first is how many variables the file has; their values in the end, which are the goal's, fill the first bytes
  * of `state`. 32 bytes are always enough.
  */
@@ -160,7 +162,7 @@ marrowkite_record marrowkite_record_at(const uint8_t *file, size_t file_len, uin
  * - A condition that an action says and that is not lent is 255, 255.
  * - Conditions that no action takes are those of one more action, 255, 255, 255.
  *
- * 3 to 7 as marrowkite_check answers for the file's bytes (first: the offset in them); then 13.
+ * 3 to 7 and 21 as marrowkite_check answers for the file's bytes (first: the offset in them, or the variable); then 13.
  * Done: first is the file's length; the file fills the first bytes of `file`. 25,544 bytes are always enough.
  */
 marrowkite_answer marrowkite_write(uint8_t situation, const uint8_t *variables, size_t variables_len,
@@ -169,8 +171,8 @@ marrowkite_answer marrowkite_write(uint8_t situation, const uint8_t *variables, 
                                    uint8_t *file, size_t file_len);
 
 /*
- * Reports how varied the plans of `n` seeds in a row from `first` on are, the file planned with each: 1 to 8, then 19, 18
- * (the first seed out of range), 13.
+ * Reports how varied the plans of `n` seeds in a row from `first` on are, the file planned with each: 1 to 8 and 21, then 19,
+ * 18 (the first seed out of range), 13.
  * Done: first is the report's length; the report, one byte for each figure, fills the first bytes of `report`:
  *
  *   1    how many plans

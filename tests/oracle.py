@@ -232,8 +232,14 @@ def first_repeat(study):
     return None
 
 
+def unused(study):
+    """The variables that no action changes and no condition names, in force or not."""
+    used = {action.variable for action in study.actions} | {v for action in study.actions for v, _ in action.conditions}
+    return [v for v in range(len(study.counts)) if v not in used]
+
+
 def read(file):
-    """What the file says; raises Refused with 1 to 8."""
+    """What the file says; raises Refused with 1 to 8 or 21."""
     study = Study()
     place = 0
     while not study.ended:
@@ -250,6 +256,8 @@ def read(file):
     repeat = first_repeat(study)
     if repeat is not None:
         raise Refused(7, study.places[repeat])
+    for variable in unused(study):
+        raise Refused(21, variable)
     if place < len(file):
         raise Refused(8, place)
     return study
@@ -848,6 +856,22 @@ def anything(rng):
     return Study(counts, actions, tasks, some_seed(rng))
 
 
+def each_used(rng, study):
+    """The study with every variable used: one that is not is named by a condition that holds all the time, or changed by an action
+    that leads to its start or away from start and goal, in force or not."""
+    for v in unused(study):
+        others = [action for action in study.actions if action.variable != v]
+        if others and rng.random() < 0.6:
+            action = rng.choice(others)
+            action.conditions = sorted([*action.conditions, (v, study.start(v))])
+        else:
+            post = rng.choice([q for q in range(study.counts[v]) if q != study.goal(v)] + [study.start(v)])
+            pre = rng.choice([q for q in range(study.counts[v]) if q != post])
+            situations = some_set(rng, study.situation, False) if rng.random() < 0.3 else ALWAYS
+            study.actions.insert(rng.randint(0, len(study.actions)), Action(v, pre, post, [], situations))
+    return study
+
+
 def some_set(rng, situation, inside):
     """A set of situations that has this one, or not; it may be any such set."""
     bit = 1 << situation
@@ -879,13 +903,13 @@ def in_a_situation(rng, study):
 
 def middling(rng):
     """Too large to try every list: some 20 to 60 steps."""
-    study = rng.choice([solvable, solvable, ringed])(rng, 12, 9)
+    study = each_used(rng, rng.choice([solvable, solvable, ringed])(rng, 12, 9))
     return in_a_situation(rng, study) if rng.random() < 0.5 else study
 
 
 def small_study(rng):
     kinds = [solvable, without_walk, off_walk, ringed, anything]
-    study = rng.choices(kinds, [5, 1, 1, 3, 2])[0](rng)
+    study = each_used(rng, rng.choices(kinds, [5, 1, 1, 3, 2])[0](rng))
     return in_a_situation(rng, study) if rng.random() < 0.5 else study
 
 
@@ -958,7 +982,7 @@ def most_variables(rng):
     """32 variables, and a walk of up to 15 steps now and then."""
     counts = [rng.choice([2, 16]) for _ in range(32)]
     rows = [rng.sample(range(n), rng.choice([1, 2, n if rng.random() < 0.3 else 1])) for n in counts]
-    return study_of_rows(rng, counts, rows, rng.choice([0, 0.1, 1]))
+    return each_used(rng, study_of_rows(rng, counts, rows, rng.choice([0, 0.1, 1])))
 
 
 def whole_circles(rng):
@@ -1069,9 +1093,15 @@ def with_records_damaged(rng, study):
 
 
 def give_named_fault(rng, study):
-    """One of the faults that documents name: in values, order of conditions, own variable, repeated post, task, seed or situation."""
-    way = rng.randrange(9)
-    if way == 8:
+    """One of the faults that documents name: in values, order of conditions, own variable, repeated post, task, seed or situation;
+    or some variables that nobody uses."""
+    way = rng.randrange(10)
+    if way == 9:
+        for v in rng.sample(range(len(study.counts)), rng.randint(1, min(2, len(study.counts)))):
+            study.actions = [action for action in study.actions if action.variable != v]
+            for action in study.actions:
+                action.conditions = [condition for condition in action.conditions if condition[0] != v]
+    elif way == 8:
         study.situation = rng.choice([8, 9, 128, 255])
     elif way == 0:
         study.seed = rng.choice(BAD_SEEDS)
@@ -1578,7 +1608,13 @@ def worked_writes():
     yield porter_with(), 55, (13, 56, 0)
     yield porter_with(), 0, (13, 56, 0)
     yield porter_with(seed=LARGEST_SEED), 56, (0, 56, 0)
-    yield porter_with(a="", c=""), 24, (0, 24, 0)
+    # 21: nobody uses a variable
+    yield porter_with(a="", c=""), 24, (21, 0, 0)
+    yield porter_with(a="000001ff00 020001ff00", c=""), 99, (21, 1, 0)
+    yield porter_with(a="000001ff01 020001fe00", c="0102"), 39, (0, 37, 0)
+    yield porter_with(a="000001ff00 000100fe02", c="0102 0200"), 99, (0, 40, 0)
+    yield porter_with(a="000001ff00 000001ff00", c=""), 99, (7, 10, 0)
+    yield porter_with(a="", c="", seed=0), 24, (5, 18, 0)
     for seed in BAD_SEEDS:
         yield porter_with(seed=seed), 0, (5, 50, 0)
     # 3: where a record stands that may not come
@@ -1685,6 +1721,7 @@ def file_cases():
     one, two, three_values = "0102", "0102 0102", "0103 0102 0102"
     go = "02000001"  # variable 0 from 0 to 1
     rest = "04000001 04010001 0500000001 06"
+    alone = "04000001 0500000001 06"
     crowd = "0102" * 32
     yield "", (1, 0, 0)
     yield "00", (2, 0, 0)
@@ -1722,7 +1759,8 @@ def file_cases():
     yield "0801 0701", (3, 2, 0)
     yield "0801 02", (3, 2, 0)
     yield "0102 0801", (3, 2, 0)
-    yield "0807" + two + rest, (0, 0, 2)
+    yield "0807" + two + rest, (21, 0, 0)
+    yield "0807" + one + go + alone, (0, 1, 1)
     yield one + "0701", (3, 2, 0)  # before any action
     yield one + go + "07", (1, 6, 0)
     yield one + go + "07ff", (6, 6, 0)
@@ -1732,10 +1770,10 @@ def file_cases():
     yield two + go + "030100 0701 030100", (3, 13, 0)
     yield two + go + "030100 0701" + rest, (0, 1, 2)
     yield two + "04000001 0701", (3, 8, 0)
-    for situation, numbers in (("", (7, 10, 0)), ("0801", (0, 2, 2)), ("0802", (7, 12, 0))):  # in force: both, the second, both
-        yield situation + two + go + "0705" + go + "0707" + rest, numbers
-    yield two + go + "07fe" + go + "07fe" + go + "07fe" + rest, (0, 3, 2)  # none in force in situation 0
-    yield "0801" + two + go + "0701" + go + go + "07fe" + go + rest, (7, 16, 0)  # the first that repeats one in force
+    for situation, numbers in (("", (7, 8, 0)), ("0801", (0, 2, 1)), ("0802", (7, 10, 0))):  # in force: both, the second, both
+        yield situation + one + go + "0705" + go + "0707" + alone, numbers
+    yield one + go + "07fe" + go + "07fe" + go + "07fe" + alone, (0, 3, 1)  # none in force in situation 0
+    yield "0801" + one + go + "0701" + go + go + "07fe" + go + alone, (7, 14, 0)  # the first that repeats one in force
     yield two + go + "030100 030100", (6, 11, 0)  # the same variable again
     yield two + go + "030000", (6, 8, 0)  # its own variable
     yield two + go + "030002", (5, 8, 0)  # .. with a value too large
@@ -1756,13 +1794,26 @@ def file_cases():
     yield two + "04000001 04010001 06", (3, 12, 0)  # no seed
     for seed in ("00000000", "7fffffff", "80000000", "ffffffff"):
         yield two + "04000001 04010001 05" + seed + "06", (5, 12, 0)
-    yield two + "04000001 04010001 057ffffffe 06", (0, 0, 2)
+    yield two + "04000001 04010001 057ffffffe 06", (21, 0, 0)
+    yield two + go + "030101 04000001 04010001 057ffffffe 06", (0, 1, 2)
     yield two + "04000001 04010001 0500000001 0500000001", (3, 17, 0)
     yield two + "04000001 04010001 0500000001", (1, 17, 0)
-    yield two + rest, (0, 0, 2)
-    yield two + go + rest, (0, 1, 2)
-    yield two + rest + "06", (8, 18, 0)
-    yield two + rest + "ff00", (8, 18, 0)
+    yield one + go + alone, (0, 1, 1)
+    yield one + go + alone + "06", (8, 16, 0)
+    yield one + go + alone + "ff00", (8, 16, 0)
+    # variables that nobody uses
+    yield two + rest, (21, 0, 0)  # a task is no use
+    yield two + go + rest, (21, 1, 0)
+    yield two + "02010001" + rest, (21, 0, 0)
+    yield three_values + go + "04000001 04010001 04020001 0500000001 06", (21, 1, 0)  # the lowest of two
+    yield two + go + "030100" + rest, (0, 1, 2)  # used by a condition only
+    yield two + go + "02010001 07fe" + rest, (0, 2, 2)  # .. by an action out of force only
+    yield two + go + "02000100 030100 07fe" + rest, (0, 2, 2)  # .. by a condition of an action out of force only
+    yield two + go + go + rest, (7, 8, 0)  # 7 comes before 21
+    yield two + go + rest + "00", (21, 1, 0)  # .. and 8 after it
+    yield two + go + "04000001 04010001 0500000000 06", (5, 16, 0)  # every fault of a record comes before it
+    yield two + go + "04000001 04010001 0500000001", (1, 21, 0)
+    yield crowd + "02000001 021f0001", (1, 72, 0)
     yield crowd + "01", (1, 64, 0)
     yield crowd + "0102", (4, 64, 0)
     yield crowd + "0100", (4, 64, 0)  # 4 comes before 5
@@ -1901,13 +1952,13 @@ def test_both_ways(seed, files):
 
 ANSWERS_TO_MEET = {
     "record_at": {0, 1, 2},
-    "check": set(range(9)),
-    "plan": set(range(14)),
-    "plan_seeded": set(range(14)) - {9},
-    "run": set(range(9)) | {13, 14, 15, 16, 17, 20},
+    "check": set(range(9)) | {21},
+    "plan": set(range(14)) | {21},
+    "plan_seeded": set(range(14)) - {9} | {21},
+    "run": set(range(9)) | {13, 14, 15, 16, 17, 20, 21},
     "draw": {0, 13, 18, 19},
-    "write": {0, 3, 4, 5, 6, 7, 13},
-    "report": set(range(9)) | {13, 18, 19},
+    "write": {0, 3, 4, 5, 6, 7, 13, 21},
+    "report": set(range(9)) | {13, 18, 19, 21},
 }
 
 

@@ -34,6 +34,7 @@ FIRST_LINES = {
     "horse-breeder-fed": "plan 2",
     "hotel": "plan 20",
     "night-porter": "plan 6",
+    "courier": "plan 6",
     "no-walk": "refused 10 1 255",
     "cart-back": "refused 10 1 0",
     "kerbside": "refused 10 0 255",
@@ -46,6 +47,9 @@ FIRST_LINES = {
     "linen-waits": "refused 12 0 0",
     "longest": "plan 256",
 }
+
+# Tables of which the writer makes no study: what bin/make-study says of each is stored.
+REFUSED = ["courier-second-pass"]
 
 # The studies whose plans are stored in words too.
 IN_WORDS = ["porter", "hotel", "night-porter"]
@@ -152,6 +156,10 @@ REFUSALS = {
     HEAD + GO + "  stay: b x -> x\n" + TAIL: (6, (6, 11, 0), "are the same"),
     HEAD + "  go: a x -> y when a = x\n" + TAIL: (5, (6, 8, 0), "own variable"),
     HEAD + "  go: a x -> y when b = x, b = y\n" + TAIL: (5, (6, 11, 0), "same variable"),
+    HEAD + "  go: a x -> y\n" + TAIL: (3, (21, 1, 0), "no condition names it"),
+    HEAD + "  go: b x -> y\n" + TAIL: (2, (21, 0, 0), "no action changes"),
+    HEAD + TAIL: (2, (21, 0, 0), "no action changes"),
+    "situation 3\n" + HEAD + "  go: a x -> y during 2\n" + TAIL: (4, (21, 1, 0), "no action changes"),
     HEAD + GO + "\n  back: b x -> y\n  come: b z -> y\n" + TAIL: (8, (7, 15, 0), "earlier action"),
     HEAD + GO + "  back: b x -> y during 0, 1\n  come: b z -> y\n" + TAIL: (7, (7, 17, 0), "in this situation"),
     "situation 2\n" + HEAD + "  go: b x -> y during 1\n  back: b x -> y\n  come: b z -> y during 2\n" + TAIL: (
@@ -277,12 +285,35 @@ def why(name):
     return "".join(f"{line_in_words(name, line)}\n" for line in stored(name, ".explained").decode().splitlines())
 
 
+def refusal_of(name):
+    """What bin/make-study says of a table that it makes no study of."""
+    said = command(STUDIES / f"{name}.study", "-o", "-")
+    expect(said.returncode == 1 and not said.stdout, f"{name}.study makes a study")
+    return said.stderr.decode().replace(str(STUDIES) + "/", "")
+
+
+def check_refused(name):
+    expect(stored(name, ".refused").decode() == refusal_of(name), f"{name}.refused is not what bin/make-study says")
+
+
+def check_courier():
+    """The slip: the courier's table with one variable and its task more, which nobody uses."""
+    courier = oracle.read(stored("courier", ".bin"))
+    slip = oracle.replace(courier, counts=[*courier.counts, 2], tasks=[*courier.tasks, (0, 0)])
+    expect(oracle.check(oracle.file_of(slip))[0] == (21, 3, 0), "the courier's slip is not told")
+    lines = stored("courier-second-pass", ".study").decode().splitlines()
+    at = next(number for number, line in enumerate(lines, 1) if line.startswith("  badge:"))
+    expect(f":{at}: refused 21 3 0: " in stored("courier-second-pass", ".refused").decode(), "the line of the second pass")
+
+
 def write_all():
     for name in FIRST_LINES:
         data = made(name)
         (STUDIES / f"{name}.bin").write_bytes(data)
         (STUDIES / f"{name}.out").write_text(oracle.printed(data))
         (STUDIES / f"{name}.explained").write_text(explainer.explained(data))
+    for name in REFUSED:
+        (STUDIES / f"{name}.refused").write_text(refusal_of(name))
     for name in WHY:
         (STUDIES / f"{name}.why").write_text(why(name))
     for name in IN_WORDS:
@@ -315,6 +346,7 @@ def check_variety(name):
 def check_folder():
     """Nothing is left over in the folder."""
     named = {name + suffix for name in FIRST_LINES for suffix in (".study", ".bin", ".out", ".explained")} - {"longest.study"}
+    named |= {name + suffix for name in REFUSED for suffix in (".study", ".refused")}
     named |= {f"{name}.names" for name in IN_WORDS} | {f"{name}.variety" for name in VARIED} | {f"{name}.why" for name in WHY}
     there = {path.name for path in STUDIES.iterdir()} - {"README.md"}
     expect(named == there, f"studies/ lacks {sorted(named - there)} or has {sorted(there - named)} too many")
@@ -424,7 +456,8 @@ def check_refused_lines(make_study):
         if numbers[0] == 0:
             continue
         file, before, at = oracle.file_of_lists(*lists), Counter(), 0
-        while at < numbers[1]:
+        place = numbers[1] if numbers[0] != 21 else 2 * numbers[1] + 2 * (file[0] == oracle.SITUATION)
+        while at < place:
             before[file[at]] += 1
             at = oracle.record_at(file, at)[0][4]
         said = told_of(make_study, text)
@@ -510,6 +543,9 @@ def main():
     attempt(check_explanations)
     attempt(check_pages)
     attempt(check_night_porter)
+    for name in REFUSED:
+        attempt(check_refused, name)
+    attempt(check_courier)
     make_study = make_study_module()
     for check in (check_mistakes, check_refusals, check_refused_lines, check_order, check_shows):
         attempt(check, make_study)

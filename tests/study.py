@@ -40,7 +40,7 @@ class Study:
 
 
 class Refused(Exception):
-    """A file that says no study: the answer number, 1 to 8, and its place."""
+    """A file that says no study: the answer number, 1 to 8 with its place, or 21 with its variable."""
 
     def __init__(self, number, place):
         super().__init__(number, place)
@@ -65,7 +65,7 @@ def record_at(data, at):
     return 0, kind, start, after - start, after
 
 
-# A file: records are tested one by one, each in the order 2, 3, 1, 4, 5, 6; at the end record 7, then 8.
+# A file: records are tested one by one, each in the order 2, 3, 1, 4, 5, 6; at the end record 7, then 21, then 8.
 
 
 def kinds_allowed(study, last):
@@ -196,6 +196,7 @@ def read(data):
         at = after
         last = kind
     refuse_repeats(study)
+    refuse_unused(study)
     if at < len(data):
         raise Refused(8, at)
     return study
@@ -208,6 +209,15 @@ def refuse_repeats(study):
         if (action.variable, action.post) in sets:
             raise Refused(7, action.place)
         sets.add((action.variable, action.post))
+
+
+def refuse_unused(study):
+    """21 with the lowest variable that no action changes and no condition names."""
+    left = set(range(len(study.counts)))
+    for action in study.actions:
+        left -= {action.variable, *dict(action.conditions)}
+    if left:
+        raise Refused(21, min(left))
 
 
 def check(data):

@@ -81,13 +81,13 @@ mod exported {
     }
 }
 
-/// Checks a file: 1 to 8. Done: first is how many actions it has, second how many variables.
+/// Checks a file: 1 to 8 and 21. Done: first is how many actions it has, second how many variables.
 pub fn check(file: &[u8]) -> Answer {
     // SAFETY: here and below, pointer and length are those of a slice, which outlives the call.
     unsafe { exported::marrowkite_check(file.as_ptr(), file.len()) }
 }
 
-/// Plans with a rank list: 1 to 8, then 9, 10, 11, 12, 13. Done: the plan is `plan[..first]`. With 10, first is the lowest
+/// Plans with a rank list: 1 to 8 and 21, then 9, 10, 11, 12, 13. Done: the plan is `plan[..first]`. With 10, first is the lowest
 /// variable that has no walk, and second the value of it that no action in force sets, or 255 where the trace comes round.
 pub fn plan(file: &[u8], ranks: &[u8], plan: &mut [u8]) -> Answer {
     unsafe {
@@ -109,7 +109,7 @@ pub fn plan_seeded(file: &[u8], plan: &mut [u8]) -> Answer {
     }
 }
 
-/// Runs a plan: 1 to 8, then 13, then step by step 14, 20, 15, 16, then 17. Done: the end state is `state[..first]`.
+/// Runs a plan: 1 to 8 and 21, then 13, then step by step 14, 20, 15, 16, then 17. Done: the end state is `state[..first]`.
 pub fn run(file: &[u8], plan: &[u8], state: &mut [u8]) -> Answer {
     unsafe {
         exported::marrowkite_run(
@@ -133,7 +133,7 @@ pub fn record_at(file: &[u8], at: u64) -> Record {
     unsafe { exported::marrowkite_record_at(file.as_ptr(), file.len(), at) }
 }
 
-/// Writes the file that a situation, lists and a seed stand for: 3 to 7, then 13. An entry has one byte in `variables`, five in
+/// Writes the file that a situation, lists and a seed stand for: 3 to 7 and 21, then 13. An entry has one byte in `variables`, five in
 /// `actions`, two in `conditions`, three in `tasks`; situation 0 and a set of 255 are not written. Done: the file is
 /// `file[..first]`.
 pub fn write(
@@ -163,7 +163,7 @@ pub fn write(
     }
 }
 
-/// Reports how varied the plans of `n` seeds in a row from `first` on are: 1 to 8, then 19, 18, 13. Done: the report is
+/// Reports how varied the plans of `n` seeds in a row from `first` on are: 1 to 8 and 21, then 19, 18, 13. Done: the report is
 /// `report[..first]`: how many plans, how many refusals 10, 11 and 12, how many different plans; then for each position of a
 /// plan how often each action stood there.
 pub fn report(file: &[u8], first: u64, n: u64, report: &mut [u8]) -> Answer {

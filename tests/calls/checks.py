@@ -110,6 +110,35 @@ def situations(book):
     show(book, "a condition behind a set", with_set[:38] + condition_record(2, 1) + with_set[38:], says=(3, 38, 0))
 
 
+# Variables that nobody uses: no action changes them and no condition names them. Actions are (variable, conditions, set), each from 0 to 1.
+
+
+def using(count, *actions):
+    records = b"".join(
+        action_record(own, 0, 1) + b"".join(condition_record(v, 1) for v in named) + situations_record(byte)
+        for own, named, byte in actions
+    )
+    return variables(count, 2) + records + rest(count)
+
+
+def unused(book):
+    show(book, "used by actions", using(2, (0, [], 255), (1, [], 255)), says=(0, 2, 2))
+    show(book, "used by a condition only", using(2, (0, [1], 255)), says=(0, 1, 2))
+    show(book, "used by an action out of force only", using(2, (0, [], 255), (1, [], 254)), says=(0, 2, 2))
+    show(book, "used by a condition of an action out of force only", using(2, (0, [], 255), (0, [1], 0)), says=(0, 2, 2))
+    show(book, "one that only its task names", using(2, (0, [], 255)), says=(21, 1, 0))
+    show(book, "the first of two", using(2, (1, [], 255)), says=(21, 0, 0))
+    show(book, "two dead ones: the lowest", using(4, (1, [3], 255)), says=(21, 0, 0))
+    show(book, "two dead ones behind one that is used", using(4, (0, [2], 255)), says=(21, 1, 0))
+    show(book, "the last of 32", using(32, (0, range(1, 31), 255)), says=(21, 31, 0))
+    show(book, "32, all named by one action", using(32, (0, range(1, 32), 255)), says=(0, 1, 32))
+    show(book, "a value set twice, and a dead one", using(3, (0, [], 255), (0, [], 255)), says=(7, 10, 0))
+    show(book, "a dead one, and a byte behind", using(2, (0, [], 255)) + b"\0", says=(21, 1, 0))
+    show(book, "a dead one, and the seed 0", using(2, (0, [], 255)).replace(seed_record(1), seed_record(0)), says=(5, 16, 0))
+    show(book, "a dead one, and no end", using(2, (0, [], 255))[:-1], says=(1, 21, 0))
+    show(book, "no action, and a byte behind", using(3) + b"\x09", says=(21, 0, 0))
+
+
 # The limits.
 
 
@@ -134,7 +163,8 @@ def rest(count):
 
 def many_variables(book):
     for count in [1, 31, 32, 33, 34]:
-        show(book, f"{count} variables", variables(count, 2) + rest(count))
+        show(book, f"{count} variables", variables(count, 2) + action_record(0, 0, 1) + conditions(0, count) + rest(count))
+        show(book, f"{count} variables, and no action", variables(count, 2) + rest(count))
     for name, last in [
         ("a 33rd variable of no value", variable_record(0)),
         ("a 33rd variable that is cut", b"\x01"),
@@ -148,7 +178,8 @@ def many_actions(book):
     for name, count, set_count, more in [
         ("256 actions", 16, 16, b""),
         ("272 actions", 17, 17, b""),
-        ("241 actions", 17, 15, action_record(15, 0, 1)),
+        ("241 actions", 17, 15, action_record(15, 0, 1) + condition_record(16, 0)),
+        ("241 actions, and the last variable not used", 17, 15, action_record(15, 0, 1)),
         ("240 actions, then a post that the first sets", 17, 15, action_record(0, 5, 0)),
         ("240 actions, then a post that the last but one sets", 17, 15, action_record(14, 5, 14)),
         ("257 actions", 17, 16, action_record(16, 0, 1)),
@@ -187,6 +218,7 @@ def write(book):
     porter_cases(book)
     altered(book)
     situations(book)
+    unused(book)
     many_variables(book)
     many_actions(book)
     many_conditions(book)

@@ -100,7 +100,12 @@ RING_BETWEEN = file_of(
 
 
 def still(goal):
-    """One variable and no action."""
+    """One variable, and an action that leads it back to its start."""
+    return file_of(Study([2], [Action(0, 1, 0)], [(0, goal)], 1))
+
+
+def without_action(goal):
+    """One variable, which nobody uses."""
     return file_of(Study([2], [], [(0, goal)], 1))
 
 
@@ -110,10 +115,16 @@ def other_files(book):
     show_plan(book, "a ring between", RING_BETWEEN, range(6))
     show_plan(book, "a ring between, and no room", RING_BETWEEN, [5, 4, 3, 2, 1, 0], 0)
     show_seeded(book, "a ring between", RING_BETWEEN)
-    show_plan(book, "no action, at the goal", still(0), [], 0)
-    show_seeded(book, "no action, at the goal", still(0))
-    show_plan(book, "no action, away from the goal", still(1), [])
-    show_plan(book, "no action, and a rank", still(1), [0])
+    show_plan(book, "one action, at the goal", still(0), [0], 0)
+    show_seeded(book, "one action, at the goal", still(0))
+    show_plan(book, "one action, and the goal elsewhere", still(1), [0])
+    show_plan(book, "one action, and two ranks", still(1), [0, 1])
+    case(book, "no action, at the goal", without_action(0), [], (21, 0, 0))
+    case(book, "no action, and a rank", without_action(0), [0], (21, 0, 0))
+    case(book, "no action, away from the goal", without_action(1), [], (21, 0, 0))
+    dead = replace(read(PORTER), counts=[2, 3, 2, 2], tasks=[(0, 1), (0, 2), (0, 1), (0, 0)])
+    case(book, "the porter with a dead pass", file_of(dead), range(5), (21, 3, 0))
+    case(book, "the porter with a dead pass, and ranks too few", file_of(dead), [0], (21, 3, 0))
 
 
 def rank_lists(book):
@@ -268,7 +279,7 @@ def broken_walks(book):
     breaking(book, "broken beside the start", [4], chain(0, 1, 2, 3), [(0, 3)], (10, 0, 1))
     breaking(book, "broken at 0", [3], chain(0, 0, 2), [(1, 2)], (10, 0, 0))
     breaking(book, "broken at 15", [16], chain(0, 15, 1), [(0, 1)], (10, 0, 15))
-    breaking(book, "broken at 15, the goal", [16], [], [(0, 15)], (10, 0, 15))
+    breaking(book, "broken at 15, the goal", [16], chain(0, 1, 2), [(0, 15)], (10, 0, 15))
     breaking(book, "broken after 14 actions", [16], chain(0, *range(1, 16)), [(0, 15)], (10, 0, 1))
     breaking(book, "whole, of 15 actions", [16], chain(0, *range(16)), [(0, 15)], (0, 15, 0), range(15))
 
@@ -298,12 +309,12 @@ def lowest_broken(book):
     """Of several variables the lowest is told of, whichever way it breaks."""
     round_at = [chain(v, 1, 2, 1) for v in range(4)]
     breaking(book, "two come round", [3, 3], round_at[0] + round_at[1], [(0, 2)] * 2, (10, 0, 255))
-    breaking(book, "one breaks, one comes round", [3, 3], round_at[1], [(0, 1), (0, 2)], (10, 0, 1))
-    breaking(book, "one comes round, one breaks", [3, 3], round_at[0], [(0, 2), (0, 1)], (10, 0, 255))
-    lower, tasks = chain(0, 0, 1, 2), [(0, 2), (1, 1), (0, 2), (0, 2)]
+    breaking(book, "one breaks, one comes round", [3, 3], chain(0, 1, 2) + round_at[1], [(0, 1), (0, 2)], (10, 0, 1))
+    breaking(book, "one comes round, one breaks", [3, 3], round_at[0] + chain(1, 1, 2), [(0, 2), (0, 1)], (10, 0, 255))
+    lower, tasks = chain(0, 0, 1, 2) + chain(1, 0, 2), [(0, 2), (1, 1), (0, 2), (0, 2)]
     breaking(book, "two have one, the third breaks", [3] * 4, lower + chain(2, 1, 2) + round_at[3], tasks, (10, 2, 1))
     breaking(book, "two have one, the third comes round", [3] * 4, lower + round_at[2] + chain(3, 1, 2), tasks, (10, 2, 255))
-    breaking(book, "the last of 32", [16] * 32, chain(31, 7, 8, 9), [(3, 3)] * 31 + [(3, 9)], (10, 31, 7))
+    breaking(book, "the last of 32", [16] * 32, [*chain(31, 7, 8), Action(31, 8, 9, [(v, 3) for v in range(31)])], [(3, 3)] * 31 + [(3, 9)], (10, 31, 7))
 
 
 def many_broken(book):

@@ -91,7 +91,8 @@ def many_actions(book):
     """Actions 1, 17 and 33 by rank; the others are on no walk."""
     actions = [Action(variable, 0 if post else 1, post) for variable in range(5) for post in range(16)]
     for many in (63, 64, 65, 80):
-        file = file_of(Study([16] * 5, actions[:many], [(0, 1)] * 3 + [(0, 0)] * 2, 1))
+        variables = (many + 15) // 16
+        file = file_of(Study([16] * variables, actions[:many], [(0, 1)] * 3 + [(0, 0)] * (variables - 3), 1))
         figures = by_ranks([1, 17, 33], [], many, 1, 64)
         reported(book, f"three steps of {many} actions", file, 1, 64, figures, room=5 + 3 * many)
         refused(book, f"three steps of {many} actions, a byte short", file, 1, 64, 13, 5 + 3 * many, room=4 + 3 * many)

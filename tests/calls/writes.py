@@ -81,12 +81,11 @@ def whole(book):
     show(book, "the porter, no room", porter(), room=0, says=(13, 56, 0), leaves=b"")
     show(book, "the largest seed", porter(seed=2147483646), says=(0, 56, 0))
     show(book, "a seed of four different bytes", porter(seed=0x01020304), says=(0, 56, 0))
-    show(book, "no action", porter(actions=b"", conditions=b""), says=(0, 24, 0))
-    show(book, "one variable alone", alone(bytes([2]), tasks=bytes([0, 0, 0])), says=(0, 12, 0))
+    show(book, "one variable and one action", alone(bytes([2]), bytes([0, 0, 1, 255, 0]), tasks=bytes([0, 0, 0])), says=(0, 16, 0))
     book.case("write: in one buffer: the porter, the porter with seed 0, one without conditions")
     add(book, porter(), 60)
     add(book, porter(seed=0), 60)
-    add(book, porter(actions=ACTIONS[:10], conditions=b"", seed=3), 60)
+    add(book, porter(actions=ACTIONS[:10] + bytes([2, 0, 1, 255, 0]), conditions=b"", seed=3), 60)
 
 
 def faults(book):
@@ -135,6 +134,20 @@ def cut(book):
     refused(book, "a task cut behind the last", porter(tasks=TASKS + b"\0\0"), 3, 50)
 
 
+def unused(book):
+    """21: by the lowest variable that no action changes and no condition names, in force or not; after 7, and before 13."""
+    one, other = bytes([0, 0, 1, 255, 0]), bytes([2, 0, 1, 254, 0])
+    refused(book, "no action", porter(actions=b"", conditions=b""), 21, 0)
+    refused(book, "one variable alone", alone(bytes([2]), tasks=bytes([0, 0, 0])), 21, 0)
+    refused(book, "the cart unused", porter(actions=one + other, conditions=b""), 21, 1)
+    refused(book, "the ride unused", porter(actions=one + bytes([1, 0, 1, 255, 0]), conditions=b""), 21, 2)
+    refused(book, "a value set twice, and two unused", porter(actions=one + one, conditions=b""), 7, 10)
+    refused(book, "two unused, and the seed 0", porter(actions=one, conditions=b"", seed=0), 5, 22)
+    named = one[:4] + b"\1"
+    show(book, "the cart named by a condition", porter(actions=named + other, conditions=b"\1\2"), says=(0, 37, 0))
+    show(book, ".. of an action out of force", porter(actions=one + other[:4] + b"\1", conditions=b"\1\2"), says=(0, 37, 0))
+
+
 def each_byte(book):
     for which, data in enumerate((VARIABLES, ACTIONS, CONDITIONS, TASKS)):
         name = ("variables", "actions", "conditions", "tasks")[which]
@@ -162,8 +175,10 @@ def many_conditions(own, *more):
 
 
 def limits(book):
-    show(book, "32 variables", alone(bytes([2] * 32), tasks=bytes(byte for v in range(32) for byte in (v, 0, 0))), 264)
-    show(book, "256 actions", many_actions(SETTERS), 264, says=(13, 1132, 0))
+    show(book, "32 variables", many_conditions(0), 264, says=(13, 295, 0))
+    refused(book, "32 variables, and no action", alone(bytes([2] * 32), tasks=bytes(byte for v in range(32) for byte in (v, 0, 0))), 21, 0)
+    show(book, "256 actions", many_actions(SETTERS[:-1] + b"\1", b"\x10\0"), 264, says=(13, 1135, 0))
+    refused(book, "256 actions, and a variable that nobody uses", many_actions(SETTERS), 21, 16)
     refused(book, "257 actions", many_actions(SETTERS + bytes([16, 0, 1, 255, 0])), 4, 1058)
     refused(book, "257 actions, the last of no variable", many_actions(SETTERS + bytes([17, 0, 1, 255, 0])), 4, 1058)
     refused(book, "256 actions and one that is cut", many_actions(SETTERS + b"\0"), 4, 1058)
@@ -198,6 +213,7 @@ def write(book):
     whole(book)
     situations(book)
     faults(book)
+    unused(book)
     cut(book)
     each_byte(book)
     limits(book)

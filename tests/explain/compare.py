@@ -22,18 +22,20 @@ import oracle
 STUDIES = [oracle.solvable, oracle.without_walk, oracle.off_walk, oracle.ringed, oracle.middling, oracle.small_study]
 LARGE = [oracle.large_study, oracle.longest_with_ring, oracle.longest_off_walk, oracle.longest_without_walk]
 
-# Cases 9, 13 and 14, the porter and the horse breeder.
+# Cases 9, 13 and 14, the porter and the horse breeder; a value that two actions set, and a variable that nobody uses.
 WORKED = [
     oracle.PORTER,
     oracle.horse_breeder(),
     oracle.porter((1, 0, 1), start=(0, 2, 0)),
     *(oracle.two_wanting(value, more) for value in (0, 1) for more in (False, True)),
     oracle.coming_round(),
+    bytes.fromhex("0102 02000001 02000001 04000001 0500000001 06"),
+    bytes.fromhex("0102 0102 02000001 04000001 04010001 0500000001 06"),
 ]
 
 # What the files have to show, each at least once. 9 and 13 are not among it: the program draws its ranks, and has room.
 TO_MEET = ["plan", "after next", "after sets", "after leaves", "unset", "round", "wants", "walk", "a ring with a tail"]
-TO_MEET += [f"refused {number}" for number in (1, 2, 3, 4, 5, 6, 7, 8, 10, 11, 12)] + [f"ring {rule}" for rule in explainer.RULES]
+TO_MEET += [f"refused {number}" for number in (1, 2, 3, 4, 5, 6, 7, 21, 8, 10, 11, 12)] + [f"ring {rule}" for rule in explainer.RULES]
 
 
 def files(rng, count):
@@ -44,7 +46,7 @@ def files(rng, count):
         elif number % 50 == 1:
             yield oracle.file_of(LARGE[number // 50 % len(LARGE)](rng))
         else:
-            study = STUDIES[number % len(STUDIES)](rng)
+            study = oracle.each_used(rng, STUDIES[number % len(STUDIES)](rng))
             yield oracle.file_of(oracle.in_a_situation(rng, study) if number % 3 == 0 else study)
 
 

@@ -1,15 +1,15 @@
--- The bits of one number: found by halving, under and, or and xor, of a power of two, and the lowest that is set.
+-- The bits of one number: found by halving, under and, or and xor, of a power of two, the lowest that is set, and the lowest that is not.
 -- Assumes nothing.
 use mathlib.Core.Path.{_≡_, refl, sym, ap, _∙_}
-use mathlib.Core.Bool.{Bool, false, not, _&&_, _||_}
-use Prim.Native.Nat.{ℕ, zero, suc, _*_, _/_, _%_, _^_, _<_}
+use mathlib.Core.Bool.{Bool, true, false, not, _&&_, _||_}
+use Prim.Native.Nat.{ℕ, zero, suc, _+_, _*_, _/_, _%_, _^_, _<_}
 use native.Mathlib.Nat.{pow-suc, pow-succ', div-one, one-mul, div-div-eq-div-mul, zero-div, mul-mod-left, mul-div-cancel}
 use native.Mathlib.Omega.{arith}
 use lib.Dec.{eqb, eqb·zero-suc, eqb·suc-zero, eqb·suc-suc}
 use lib.Bits.{bitAnd, bitOr, bitXor, and-shr, or-shr, xor-shr, and-mod, or-mod, xor-mod}
 use lib.Count.{trailingZeros, under}
 use lib.Pow.{shl-exact}
-use Rattle.bits.specs.Bits.{bit, marked, LowestBit}
+use Rattle.bits.specs.Bits.{bit, marked, LowestBit, LowestClear}
 
 -- what is to be shown of two numbers below 2
 both-digits : (P : ℕ → ℕ → Type 0) → P 0 0 → P 0 1 → P 1 0 → P 1 1 → (d e : ℕ) → d < 2 → e < 2 → P d e
@@ -130,3 +130,32 @@ trailing-lowest (suc w) x p h = go (x % 2) refl (λ q. trailing-lowest w (x / 2)
         → LowestBit (suc w) x (under d (trailingZeros w (x / 2)))
     go zero e rest = lowest-even e (rest (omega arith))
     go (suc d) e rest = lowest-odd w x (omega arith)
+
+-- ---- the lowest that is not set
+
+clear-even : (width x : ℕ) → x % 2 ≡ 0 → LowestClear (suc width) x 0
+clear-even w x e = record { most = omega arith; clear = λ _. bit-lowest x ∙ rw e; set-below = λ j h. absurd (omega arith) }
+
+clear-odd : {width x k : ℕ} → x % 2 ≡ 1 → LowestClear width (x / 2) k → LowestClear (suc width) x (suc k)
+clear-odd {width} {x} {k} e l =
+    record { most = omega (arith, l .most); clear = λ h. bit-of-half x k ∙ l .clear (omega arith); set-below = below }
+  where
+    below : (j : ℕ) → j < suc k → bit x j ≡ true
+    below zero h = bit-lowest x ∙ rw e
+    below (suc j) h = bit-of-half x j ∙ l .set-below j (omega arith)
+
+-- one more than x ends in as many zeros as x ends in ones
+pub trailing-clear : (width x : ℕ) → LowestClear width x (trailingZeros width (x + 1))
+unfolding trailingZeros
+trailing-clear zero x = record { most = omega arith; clear = λ h. absurd (omega arith); set-below = λ j h. absurd (omega arith) }
+trailing-clear (suc w) x = go (x % 2) refl ((x + 1) % 2) refl (trailing-clear w (x / 2))
+  where
+    go :
+        (d : ℕ) → x % 2 ≡ d → (m : ℕ) → (x + 1) % 2 ≡ m → LowestClear w (x / 2) (trailingZeros w (x / 2 + 1))
+        → LowestClear (suc w) x (under m (trailingZeros w ((x + 1) / 2)))
+    go zero e zero f rest = absurd (omega arith)
+    go zero e (suc m) f rest = clear-even w x e
+    go (suc d) e zero f rest =
+        let half : (x + 1) / 2 ≡ x / 2 + 1 = omega arith in
+        rw half (clear-odd (omega arith) rest)
+    go (suc d) e (suc m) f rest = absurd (omega arith)

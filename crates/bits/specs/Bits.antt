@@ -22,6 +22,12 @@ pub record LowestBit (width x k : ℕ) : Type 0 where
   pub there : bit x k ≡ true
   pub none-below : (j : ℕ) → j < k → bit x j ≡ false
 
+-- k is the lowest of the bits that are not set in a word of so many, or their number where all are set
+pub record LowestClear (width x k : ℕ) : Type 0 where
+  pub most : k ≤ width
+  pub clear : k < width → bit x k ≡ false
+  pub set-below : (j : ℕ) → j < k → bit x j ≡ true
+
 -- ---- sets in words of 64 bits
 
 -- i is in the set

@@ -4,7 +4,7 @@ ghost use mathlib.Core.Bool.{not, _&&_, _||_};
 ghost use Prim.Native.Nat.{ℕ, _<_};
 ghost use lib.Dec.{eqb};
 ghost use lib.ListN.{length};
-ghost use Rattle.bits.specs.Bits.{bit, marked, within, LowestBit, Added, Removed, LeastMember};
+ghost use Rattle.bits.specs.Bits.{bit, marked, within, LowestBit, LowestClear, Added, Removed, LeastMember};
 
 // No number: what `least` answers for a set that has none.
 pub const NONE: u16 = 256;
@@ -62,6 +62,16 @@ pub fn lowest(x: u64) -> u8
     ensures { λ r. ⌜ LowestBit 64 x r ⌝ }
 {
     u64::trailing_zeros(x) as u8
+}
+
+// The lowest bit of x that is not set, or 64: one more carries over all that are set below it.
+pub fn lowest_clear(x: u64) -> u8
+    ensures { λ r. ⌜ LowestClear 64 x r ⌝ }
+{
+    if x == 18446744073709551615 {
+        return 64;
+    }
+    u64::trailing_zeros(x + 1) as u8
 }
 
 // Whether i is in the set.

@@ -27,7 +27,7 @@ const FILE: u64 = 0x66696c65;
 const ROOM: usize = 25545;
 
 fn main() {
-    let mut text = [0u8; 262144];
+    let mut text = [0u8; 524288];
     let n = io::read_full(STDIN_FILENO, &mut text);
     lines(front(&text, n));
 }

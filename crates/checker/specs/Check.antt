@@ -1,4 +1,4 @@
--- What checking a file answers: the refusal 1 to 8 with its place, or 0 with the numbers of actions and of variables.
+-- What checking a file answers: the refusal 1 to 8 with its place or 21 with its variable, or 0 with the numbers of actions and of variables.
 -- Assumes nothing.
 use mathlib.Core.Path.{_≡_}
 use mathlib.Core.List.{List}

@@ -13,7 +13,7 @@ use Rattle.answer.specs.declared.Answer.{Answer}
 use Rattle.answer.specs.Answers.{done, refusal}
 use Rattle.answer.specs.Allowing.{Exactly}
 use Rattle.study.specs.Reading.{Said, says, refused, reading}
-use Rattle.study.proofs.Refusals.{refusals-numbered}
+use Rattle.study.proofs.Refusals.{numbered-some, refusals-numbered}
 use Rattle.spelling.specs.Lists.{fileOf}
 use Rattle.spelling.specs.Lent.{lent}
 use Rattle.spelling.specs.Write.{Writes, WriteAllows}
@@ -39,7 +39,7 @@ fits-said :
     (file before : List ℕ) (said : Said) → reading file ≡ said → (r : Answer) (after : List ℕ) → r .number ≡ 0
     → Writes said file before r after → r .first ≤ length before
 fits-said file before (refused number place) e r after zero w =
-    absurd (omega (arith, ap (λ (x : Answer). x .number) (w .0), (rw e at (refusals-numbered file)) .0))
+    absurd (omega (arith, ap (λ (x : Answer). x .number) (w .0), numbered-some (rw e at (refusals-numbered file))))
 fits-said file before (says study) e r after zero w = fits file before r after (leb (length file) (length before)) refl zero w
 
 pub written-fits :

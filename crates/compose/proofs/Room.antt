@@ -1,7 +1,7 @@
--- In room for the longest file nothing is refused for want of room: the answer is 0, or one of 3 to 7.
+-- In room for the longest file nothing is refused for want of room: the answer is 0, one of 3 to 7, or 21.
 -- Assumes nothing.
 use mathlib.Core.Path.{_≡_, refl, ap}
-use mathlib.Core.Logic.{_≢_}
+use mathlib.Core.Logic.{_⊎_, inl, inr, _≢_}
 use mathlib.Core.Bool.{Bool, true, false}
 use mathlib.Core.List.{List, _++_}
 use Prim.Native.Nat.{ℕ, _≤_}
@@ -28,12 +28,16 @@ roomy :
 roomy file before r after true test room w = ap (λ (x : Answer). x .number) (w .0)
 roomy file before r after false test room w = absurd (omega (arith, leb-false (length file) (length before) test))
 
+fault-not-13 : {number : ℕ} → ((3 ≤ number) × (number ≤ 7)) ⊎ (number ≡ 21) → number ≢ 13
+fault-not-13 (inl h) e = omega arith
+fault-not-13 (inr h) e = omega arith
+
 roomy-said :
     (l : Lists) (before : List ℕ) (said : Said) → reading (fileOf l) ≡ said → longestFile ≤ length before → (r : Answer) (after : List ℕ)
-    → Writes said (fileOf l) before r after → r .number ≤ 7
-roomy-said l before (refused number place) e room r after w =
-    omega (arith, ap (λ (x : Answer). x .number) (w .0), written-never-1-2-8 l number place e)
-roomy-said l before (says study) e room r after w =
+    → Writes said (fileOf l) before r after → r .number ≢ 13
+roomy-said l before (refused number place) e room r after w thirteen =
+    fault-not-13 (written-never-1-2-8 l number place e) (omega (arith, ap (λ (x : Answer). x .number) (w .0)))
+roomy-said l before (says study) e room r after w thirteen =
     omega (arith, roomy (fileOf l) before r after _ refl (omega (arith, loads-short (fileOf l) study e)) w)
 
 pub never-13 :
@@ -41,4 +45,4 @@ pub never-13 :
     → WriteAllows situation variables actions conditions tasks seed before r after → r .number ≢ 13
 never-13 situation variables actions conditions tasks seed before room r after w thirteen =
     let l = lent situation variables actions conditions tasks seed in
-    omega (arith, roomy-said l before (reading (fileOf l)) refl room r after w)
+    roomy-said l before (reading (fileOf l)) refl room r after w thirteen

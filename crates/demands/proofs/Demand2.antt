@@ -10,7 +10,7 @@ use Rattle.answer.specs.declared.Answer.{Answer}
 use Rattle.answer.specs.Answers.{done}
 use Rattle.study.specs.Study.{Study}
 use Rattle.study.specs.Reading.{Said, says, refused, reading}
-use Rattle.study.proofs.Refusals.{NumberedIfRefused, refusals-numbered}
+use Rattle.study.proofs.Refusals.{NumberedIfRefused, numbered-some, refusals-numbered}
 use Rattle.lawful.specs.Lawful.{Lawful}
 use Rattle.lawful.proofs.Loads.{loads-lawful}
 use Rattle.plans.specs.Plans.{startState, Reached, StraightPlan}
@@ -56,7 +56,8 @@ said-left :
     (file : List ℕ) (said : Said) → reading file ≡ said → NumberedIfRefused said → (ranks before : List ℕ) (r : Answer) (after : List ℕ)
     → PlansFile said ranks before r after → r .number ≡ 0 → Left file after r
 said-left file (says t) e n ranks before r after p z = record { study = t; loads = e; straight = answer-0-is-first p z .straight }
-said-left file (refused number place) e n ranks before r after p z = absurd (omega (arith, ap (λ (a : Answer). a .number) (p .0)))
+said-left file (refused number place) e n ranks before r after p z =
+    absurd (omega (arith, ap (λ (a : Answer). a .number) (p .0), numbered-some n))
 
 left-is-run :
     {file after : List ℕ} {r : Answer} → Left file after r

@@ -10,7 +10,7 @@ use Rattle.answer.specs.declared.Answer.{Answer}
 use Rattle.ranking.proofs.Fine.{rank-list-is-fine}
 use Rattle.study.specs.Study.{Study}
 use Rattle.study.specs.Reading.{Said, says, refused, reading}
-use Rattle.study.proofs.Refusals.{NumberedIfRefused, refusals-numbered}
+use Rattle.study.proofs.Refusals.{NumberedIfRefused, numbered-outside, refusals-numbered}
 use Rattle.lawful.proofs.Loads.{loads-lawful}
 use Rattle.plans.specs.Plans.{StraightPlan}
 use Rattle.draw.proofs.Drawn.{drawn-is-rank-list}
@@ -27,7 +27,8 @@ own-ranks-are-a-rank-list t = drawn-is-rank-list (t .seed) (length (t .actions))
 seeded-not-9 :
     (said : Said) → NumberedIfRefused said → (before : List ℕ) (r : Answer) (after : List ℕ) → PlansSeeded said before r after → r .number ≢ 9
 seeded-not-9 (says t) n before r after p h = rank-list-not-9 (own-ranks-are-a-rank-list t) p h
-seeded-not-9 (refused number place) n before r after p h = omega (arith, ap (λ (a : Answer). a .number) (p .0))
+seeded-not-9 (refused number place) n before r after p h =
+    numbered-outside n 9 (omega arith) (omega arith) (omega (arith, ap (λ (a : Answer). a .number) (p .0)))
 
 -- ---- the theorems, for a file that loads
 

@@ -1,4 +1,4 @@
--- The end: 7 where an action repeats an earlier one, and else the file loads.
+-- The end: 7 where an action repeats an earlier one, 21 where nobody uses a variable, and else the file loads.
 -- Assumes nothing.
 use mathlib.Core.Path.{_≡_, sym, ap, _∙_, subst}
 use mathlib.Core.Logic.{_≢_}
@@ -9,6 +9,7 @@ use native.Mathlib.Omega.{arith}
 use lib.ListN.{length, getD, length-drop}
 use borrow.Author.Tests.{le-ltb, eq-eqb}
 use Rattle.study.specs.Study.{Study}
+use Rattle.study.specs.Uses.{firstUnused}
 use Rattle.study.specs.Reading.{says, refused, Draft, end, fault, firstRepeat, ended, taken, unless, mayFollow, reading}
 use Rattle.lawful.proofs.Sound.{Sound}
 use Rattle.entering.specs.declared.Progress.{Progress}
@@ -42,9 +43,18 @@ module _ (l : Lists) {counts : List ℕ} {p : Progress} (h : Drafted (fileOf l) 
     small : Small (h .draft .study .actions)
     small = sound-small (h .retold .met .sound)
 
-    pub loads : place ≡ 0 → ((s : Study) × (reading (fileOf l) ≡ says s)) × (p .at + 1 ≡ length (fileOf l))
-    loads e =
-        ((h .draft .study, said none (of-the-draft .none-repeats small e) ∙ rw (le-ltb (p .at + 1) (length (fileOf l)) (omega (arith, long)))), long)
+    pub loads :
+        place ≡ 0 → firstUnused (h .draft .study) ≡ none → ((s : Study) × (reading (fileOf l) ≡ says s)) × (p .at + 1 ≡ length (fileOf l))
+    loads e used = (
+      (
+        h .draft .study,
+        said none (of-the-draft .none-repeats small e) ∙ rw (used, le-ltb (p .at + 1) (length (fileOf l)) (omega (arith, long))),
+      ),
+      long,
+    )
+
+    pub unused-there : place ≡ 0 → {v : ℕ} → firstUnused (h .draft .study) ≡ some v → reading (fileOf l) ≡ refused 21 v
+    unused-there e unused = said none (of-the-draft .none-repeats small e) ∙ rw unused
 
     pub repeats-there : place ≢ 0 → reading (fileOf l) ≡ refused 7 place
     repeats-there differ =

@@ -265,7 +265,7 @@ fn refusal(step: Step) -> Judged
     }
 }
 
-// The seed, and behind it the end, which may always come there and decides 7.
+// The seed, and behind it the end, which may always come there and decides 7 and 21.
 fn judge_end(p: Progress, n: u32, repeat: usize) -> Judged
     requires { ⌜ p .at ≤ 30000 ⌝ }
     ensures { λ r. ⌜ ((l : Lists) (counts : List ℕ)
@@ -287,6 +287,13 @@ fn judge_end(p: Progress, n: u32, repeat: usize) -> Judged
         return Judged::Refused {
             number: 7,
             place: repeat,
+        };
+    }
+    let unused = tables::wide(bits::lowest_clear(seeded.used));
+    if unused < seeded.vars {
+        return Judged::Refused {
+            number: 21,
+            place: unused,
         };
     }
     Judged::Good(seeded.at + 1)

@@ -9,7 +9,7 @@ use lib.Seq.{take-append-seam}
 use Rattle.answer.specs.declared.Answer.{Answer}
 use Rattle.study.specs.Study.{Study}
 use Rattle.study.specs.Reading.{Said, says, refused, reading}
-use Rattle.study.proofs.Refusals.{NumberedIfRefused, refusals-numbered}
+use Rattle.study.proofs.Refusals.{NumberedIfRefused, numbered-some, refusals-numbered}
 use Rattle.plans.specs.Plans.{StraightPlan}
 use Rattle.planning.specs.Seeded.{PlansSeeded}
 use Rattle.planning.proofs.Ways.{Barred, barred-number, short, fits, Way, at-fault, barred, planned, way-of}
@@ -31,7 +31,7 @@ way-straight {t} {before = before} room (planned {list = list} _ p (fits l)) e =
 said-straight :
     (said : Said) {r : Answer} (buffer : List ℕ) → NumberedIfRefused said → PlansSeeded said (replicate 256 0) r buffer → r .number ≡ 0 → Straight said r buffer
 said-straight (says t) buffer n p e = way-straight refl (way-of p) e
-said-straight (refused number place) buffer n p e = absurd (omega (arith, ap (λ (a : Answer). a .number) (p .0)))
+said-straight (refused number place) buffer n p e = absurd (omega (arith, ap (λ (a : Answer). a .number) (p .0), numbered-some n))
 
 pub seeded-straight :
     (file buffer : List ℕ) {r : Answer} → PlansSeeded (reading file) (replicate 256 0) r buffer → r .number ≡ 0 → Straight (reading file) r buffer

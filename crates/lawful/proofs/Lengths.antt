@@ -18,7 +18,8 @@ use Rattle.records.specs.declared.Found.the-variants.{There, Unknown, Cut, Ende
 use Rattle.records.proofs.Laws.{Lies, there-lies}
 use Rattle.study.specs.Study.{Action, Study, always, actionAt}
 use Rattle.study.specs.Reading.{Said, says, refused, Record, variable, action, condition, task, seed, end, times, present, decoded, recordFrom, Draft, blank, tasksLeft, allowed, fault}
-use Rattle.study.specs.Reading.{Verdict, settled, onward, firstRepeat, lastAction, withCondition, within, withActions, with, placed, drafted, ended, taken, unless, judged, verdictAt, reading}
+use Rattle.study.specs.Uses.{firstUnused}
+use Rattle.study.specs.Reading.{Verdict, settled, onward, firstRepeat, lastAction, withCondition, within, withActions, with, placed, drafted, unrepeated, ended, taken, unless, judged, verdictAt, reading}
 use Rattle.study.proofs.Readings.{VerdictHas, reading-has}
 use Rattle.lawful.specs.Lawful.{Lawful}
 use Rattle.lawful.specs.Lengths.{bytesOf, bytesOfTimes, bytesOfPresent, bytesOfActions, placesFrom, fileLength, longestFile}
@@ -240,12 +241,16 @@ module _ (file : List ℕ) {d : Draft} (sound : Sound d) (at : ℕ) (spaced : Pl
   unless-placed zero v h = h refl
   unless-placed (suc n) v h = tt
 
-  ended-length : (next : ℕ) → next ≡ at + 1 → next ≤ length file → d .last ≡ 5 → (repeat : Option ℕ) → LengthIfSaid file (ended file next d repeat)
+  unrepeated-length : (next : ℕ) → next ≡ at + 1 → next ≤ length file → d .last ≡ 5 → (unused : Option ℕ) → LengthIfSaid file (unrepeated file next d unused)
   unfolding fileLength
-  ended-length next e whole last (some i) = tt
-  ended-length next e whole last none =
+  unrepeated-length next e whole last (some v) = tt
+  unrepeated-length next e whole last none =
       picked (LengthIfSaid file) (ltb next (length file)) (λ _. tt)
       (λ nothing. omega (arith, spaced .so-far, ltb-false next (length file) nothing, with-seed (d .last) last))
+
+  ended-length : (next : ℕ) → next ≡ at + 1 → next ≤ length file → d .last ≡ 5 → (repeat : Option ℕ) → LengthIfSaid file (ended file next d repeat)
+  ended-length next e whole last (some i) = tt
+  ended-length next e whole last none = unrepeated-length next e whole last (firstUnused (d .study))
 
   taken-placed :
       (kind next : ℕ) (r : Record) → at + bytesOf r ≡ next → next ≤ length file

@@ -12,7 +12,8 @@ use Rattle.records.specs.declared.Found.{Found}
 use Rattle.records.specs.declared.Found.the-variants.{There, Unknown, Cut, Ended}
 use Rattle.study.specs.Study.{Study}
 use Rattle.study.specs.Reading.{Said, says, refused, Record, variable, action, condition, task, seed, end, times, present, recordFrom, Draft, tasksLeft, allowed, fault}
-use Rattle.study.specs.Reading.{Verdict, firstRepeat, ended, taken, unless, judged, verdictAt, reading}
+use Rattle.study.specs.Uses.{firstUnused}
+use Rattle.study.specs.Reading.{Verdict, firstRepeat, unrepeated, ended, taken, unless, judged, verdictAt, reading}
 use Rattle.study.proofs.Readings.{VerdictHas, reading-has}
 use Rattle.lawful.specs.Lawful.{Lawful}
 use Rattle.lawful.proofs.Order.{Follows, may-follow}
@@ -34,9 +35,15 @@ unless-sound zero at v f = f refl
 unless-sound (suc n) at v f = tt
 
 module _ (file : List ℕ) {d : Draft} (sound : Sound d) where
+  unrepeated-sound :
+      (next : ℕ) → d .last ≡ 5 → firstRepeat (d .study) ≡ none → (unused : Option ℕ) → firstUnused (d .study) ≡ unused
+      → LawfulIfSaid (unrepeated file next d unused)
+  unrepeated-sound next last e (some v) u = tt
+  unrepeated-sound next last e none u = picked LawfulIfSaid (ltb next (length file)) (λ _. tt) (λ _. end-lawful sound last e u)
+
   ended-sound : (next : ℕ) → d .last ≡ 5 → (repeat : Option ℕ) → firstRepeat (d .study) ≡ repeat → LawfulIfSaid (ended file next d repeat)
   ended-sound next last (some i) e = tt
-  ended-sound next last none e = picked LawfulIfSaid (ltb next (length file)) (λ _. tt) (λ _. end-lawful sound last e)
+  ended-sound next last none e = unrepeated-sound next last e (firstUnused (d .study)) refl
 
   taken-sound :
       (at kind next : ℕ) (r : Record)

@@ -12,7 +12,9 @@ use borrow.Author.Tests.{ltb-true, ltb-false}
 use Rattle.plain.proofs.Lists.{length-more, each-more, each-set, set-keeps}
 use Rattle.study.specs.Study.{Action, Task, Study, always, actionAt, taskAt, noAction, noTask}
 use Rattle.study.specs.Reading.{Record, variable, action, condition, task, seed, times, present, Draft, blank, tasksLeft, firstRepeat, lastAction, withCondition, with, drafted}
+use Rattle.study.specs.Uses.{firstUnused}
 use Rattle.study.proofs.Repeats.{none-repeats}
+use Rattle.study.proofs.Uses.{none-unused}
 use Rattle.lawful.specs.Lawful.{Has, LawfulAction, PostUnique, Lawful}
 use Rattle.lawful.proofs.Order.{stage, stage-same, Follows}
 use Rattle.lawful.proofs.Faults.{Faultless}
@@ -262,8 +264,8 @@ none-repeats-unique s e i j hi hj fi fj v p = from (decLt i j) (decLt j i)
         absurd (none-repeats (s .situation) e i (record { there = hi; in-force = fi; earlier = j; before = more; earlier-in-force = fj; same-var = sym v; same-post = sym p }))
     from (no less) (no more) = omega (arith, less, more)
 
-pub end-lawful : {d : Draft} → Sound d → d .last ≡ 5 → firstRepeat (d .study) ≡ none → Lawful (d .study)
-end-lawful {d} sound last unrepeated =
+pub end-lawful : {d : Draft} → Sound d → d .last ≡ 5 → firstRepeat (d .study) ≡ none → firstUnused (d .study) ≡ none → Lawful (d .study)
+end-lawful {d} sound last none-repeated all-used =
     let c = sound .complete last in
     record {
       situation = sound .situation;
@@ -273,7 +275,8 @@ end-lawful {d} sound last unrepeated =
       few-values = sound .counts .few-values;
       few-actions = sound .actions .few;
       action = sound .actions .each;
-      post-unique = none-repeats-unique (d .study) unrepeated;
+      post-unique = none-repeats-unique (d .study) none-repeated;
+      used = none-unused (d .study) all-used;
       a-task-each = c .a-task-each;
       has-start = sound .tasks .has-start;
       has-goal = sound .tasks .has-goal;

@@ -1,4 +1,4 @@
--- Lawful studies: the limits of document 01 and the SAS demands on actions (values in range, pre differs from post, post-unique within the situation, conditions rising and on other variables).
+-- Lawful studies: the limits of document 01 and the SAS demands on actions (values in range, pre differs from post, post-unique within the situation, conditions rising and on other variables), and document 02's that each variable is used.
 -- Assumes nothing.
 use Prim.Native.Nat.{ℕ, suc, _≤_, _<_}
 use mathlib.Core.Path.{_≡_}
@@ -6,6 +6,7 @@ use mathlib.Core.Logic.{_≢_}
 use mathlib.Core.Bool.{true}
 use mathlib.Core.List.{List}
 use lib.ListN.{length, getD}
+use Rattle.study.specs.Uses.{uses}
 use Rattle.study.specs.Study.{Condition, Action, Study, inForce, actionAt, taskAt, conditionAt}
 
 -- the variable is there, and the value is one of its values
@@ -42,6 +43,7 @@ pub record Lawful (s : Study) : Type 0 where
   pub few-actions : length (s .actions) ≤ 256
   pub action : (i : ℕ) → i < length (s .actions) → LawfulAction (s .counts) (actionAt (s .actions) i)
   pub post-unique : PostUnique (s .situation) (s .actions)
+  pub used : (v : ℕ) → v < length (s .counts) → uses (s .actions) v ≡ true
   pub a-task-each : length (s .tasks) ≡ length (s .counts)
   pub has-start : (v : ℕ) → v < length (s .tasks) → Has (s .counts) v (taskAt (s .tasks) v .start)
   pub has-goal : (v : ℕ) → v < length (s .tasks) → Has (s .counts) v (taskAt (s .tasks) v .goal)

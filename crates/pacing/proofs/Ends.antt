@@ -1,12 +1,13 @@
--- The end record: 7 at the place of the first action that repeats, then 8, or else the study that the tables hold.
+-- The end record: 7 at the place of the first action that repeats, then 21 for the lowest variable that nobody uses, then 8, or else the study that the tables hold.
 -- Assumes nothing.
 use mathlib.Core.Path.{_≡_, subst}
-use mathlib.Core.Option.{Option}
+use mathlib.Core.Option.{Option, none, some}
 use mathlib.Core.List.{List}
 use Prim.Native.Nat.{ℕ, _+_, _≤_, _<_}
 use native.Mathlib.Omega.{arith}
 use lib.ListN.{length, getD}
 use borrow.Author.Tests.{lt-ltb, le-ltb}
+use Rattle.study.specs.Uses.{firstUnused}
 use Rattle.study.specs.Reading.{refused, Draft, Verdict, settled, ended, firstRepeat}
 use Rattle.tables.specs.Tables.{Tables, tables, actionTables, HoldsTasks}
 use Rattle.entering.specs.declared.Progress.{Progress}
@@ -25,16 +26,19 @@ module _ {file : List ℕ} {p : Progress} {t : Tables} {d : Draft} (stands : Sta
       rw (filled .repeats less, here)
 
   module _ (all : r ≡ p .actions) where
-    pub ends-with-8 : next < length file → says-so (firstRepeat (d .study)) ≡ settled (refused 8 next)
-    ends-with-8 more = rw (filled .none-repeats all, lt-ltb next (length file) more)
+    pub ends-with-21 : {v : ℕ} → firstUnused (d .study) ≡ some v → says-so (firstRepeat (d .study)) ≡ settled (refused 21 v)
+    ends-with-21 unused = rw (filled .none-repeats all, unused)
+
+    pub ends-with-8 : firstUnused (d .study) ≡ none → next < length file → says-so (firstRepeat (d .study)) ≡ settled (refused 8 next)
+    ends-with-8 used more = rw (filled .none-repeats all, used, lt-ltb next (length file) more)
 
     pub ends-well :
-        length file ≤ next → p .last ≡ 5 → p .tasks ≤ p .vars
+        firstUnused (d .study) ≡ none → length file ≤ next → p .last ≡ 5 → p .tasks ≤ p .vars
         → Meets file (says-so (firstRepeat (d .study)))
         (tables (t .counts) (actionTables setters (t .acts .vars) (t .acts .pres) (t .acts .posts) (t .acts .places) (t .acts .manys) (t .acts .outs)) (t .starts) (t .goals)) (Done p)
-    ends-well no-more last few = (
+    ends-well used no-more last few = (
       d .study,
-      rw (filled .none-repeats all, le-ltb next (length file) no-more),
+      rw (filled .none-repeats all, used, le-ltb next (length file) no-more),
       record {
         sized = omega (arith, filled .long all);
         counts = stands .knows .counts;

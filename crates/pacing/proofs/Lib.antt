@@ -7,5 +7,6 @@ pub mod Knowing
 pub mod Start
 pub mod Entered
 pub mod Kept
+pub mod Unused
 pub mod Ends
 pub mod Arms

@@ -51,7 +51,7 @@ fn record_place(place: usize) -> usize
     place - 4
 }
 
-// The end record: 7 where an action repeats an earlier one, then 8 where something follows.
+// The end record: 7 where an action repeats an earlier one, then 21 where nobody uses a variable, then 8 where something follows.
 fn on_end(
     p: Progress,
     len: usize,
@@ -74,6 +74,13 @@ fn on_end(
         return Step::Refused {
             number: 7,
             place: record_place(act.place),
+        };
+    }
+    let unused = tables::wide(bits::lowest_clear(p.used));
+    if unused < p.vars {
+        return Step::Refused {
+            number: 21,
+            place: unused,
         };
     }
     if next < len {

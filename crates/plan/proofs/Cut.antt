@@ -7,7 +7,7 @@ use native.Mathlib.Omega.{arith}
 use lib.ListN.{length}
 use borrow.Author.Tests.{ne-eqb}
 use Rattle.study.specs.Reading.{refused, reading}
-use Rattle.study.proofs.Refusals.{refusals-numbered}
+use Rattle.study.proofs.Refusals.{numbered-some, refusals-numbered}
 use Rattle.lawful.specs.Lengths.{longestFile}
 use Rattle.lawful.proofs.Lengths.{longer-is-refused}
 use Rattle.telling.specs.Text.{refusedLine}
@@ -21,4 +21,4 @@ pub cut-file-is-refused :
     → (number : ℕ) × ((place : ℕ) × (text ≡ refusedLine number place 0))
 cut-file-is-refused file long p =
     let (number, (place, said)) = longer-is-refused file long in
-    (number, (place, refusal-printed number place ((rw said at (refusals-numbered file)) .0) (rw said at p)))
+    (number, (place, refusal-printed number place (numbered-some (rw said at (refusals-numbered file))) (rw said at p)))

@@ -10,7 +10,7 @@ use borrow.Author.Tests.{eq-eqb}
 use Rattle.answer.specs.declared.Answer.{Answer}
 use Rattle.study.specs.Study.{Action, Study, actionAt}
 use Rattle.study.specs.Reading.{Said, says, refused, reading}
-use Rattle.study.proofs.Refusals.{NumberedIfRefused, refusals-numbered}
+use Rattle.study.proofs.Refusals.{NumberedIfRefused, numbered-some, refusals-numbered}
 use Rattle.plans.specs.Plans.{State, Runs, after}
 use Rattle.planning.specs.Planning.{Plans, wrong-length, wrong-entry, no-walk, off-walk, ring, no-room, a-plan}
 use Rattle.planning.specs.Seeded.{PlansSeeded}
@@ -54,7 +54,7 @@ said-planned :
     (said : Said) {r : Answer} {buffer : List ℕ}
     → NumberedIfRefused said → PlansSeeded said (replicate 256 0) r buffer → r .number ≡ 0 → Planned said r buffer
 said-planned (says t) n p e = plans-planned p refl e
-said-planned (refused number place) n p e = absurd (omega (arith, ap (λ (a : Answer). a .number) (p .0)))
+said-planned (refused number place) n p e = absurd (omega (arith, ap (λ (a : Answer). a .number) (p .0), numbered-some n))
 
 pub planned : (file : List ℕ) {r : Answer} {buffer : List ℕ} → PlansSeeded (reading file) (replicate 256 0) r buffer → r .number ≡ 0 → Planned (reading file) r buffer
 planned file p e = said-planned (reading file) (refusals-numbered file) p e

@@ -1,4 +1,4 @@
--- What running a list answers: 1 to 8, then 13, then step by step 14, 20, 15, 16, then 17; or 0 with the number of variables, and the end state in the buffer.
+-- What running a list answers: the file's own refusal, then 13, then step by step 14, 20, 15, 16, then 17; or 0 with the number of variables, and the end state in the buffer.
 -- Assumes nothing.
 use Prim.Native.Nat.{ℕ, _+_}
 use mathlib.Core.Bool.{Bool, false, _||_}

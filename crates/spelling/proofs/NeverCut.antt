@@ -1,4 +1,4 @@
--- A file that was written is refused with 3 to 7 or not at all: each of its records is whole and of a known kind, and the end comes last.
+-- A file that was written is refused with 3 to 7, with 21, or not at all: each of its records is whole and of a known kind, and the end comes last.
 -- Assumes nothing.
 use mathlib.Core.Path.{_≡_, refl, ap, subst}
 use mathlib.Core.Logic.{_⊎_, inl, inr, _≢_}
@@ -14,7 +14,8 @@ use Rattle.plain.specs.Choose.{pick}
 use Rattle.plain.proofs.Tests.{picked}
 use Rattle.study.specs.Study.{Action, Study, always}
 use Rattle.study.specs.Reading.{Said, says, refused, Record, variable, action, condition, task, seed, end, times, present, Draft, blank, allowed, inRange, above, lastAction, fault}
-use Rattle.study.specs.Reading.{Verdict, firstRepeat, ended, taken, unless, follow, readOn, reading}
+use Rattle.study.specs.Uses.{firstUnused}
+use Rattle.study.specs.Reading.{Verdict, firstRepeat, unrepeated, ended, taken, unless, follow, readOn, reading}
 use Rattle.lawful.specs.Lengths.{bytesOf}
 use Rattle.spelling.specs.Spelling.{kindOf, spelledRecord, spelled}
 use Rattle.spelling.specs.Lists.{Lists, conditionRecord, taskRecord, timesRecord, actionRecords, recordsOf, fileOf}
@@ -67,9 +68,9 @@ lists-end-last l =
 
 -- ---- what a record earns
 
-abbrev pub From3To7 : Said → Type 0
-From3To7 (says s) = Unit {0}
-From3To7 (refused number place) = (3 ≤ number) × (number ≤ 7)
+abbrev pub FaultOfLists : Said → Type 0
+FaultOfLists (says s) = Unit {0}
+FaultOfLists (refused number place) = ((3 ≤ number) × (number ≤ 7)) ⊎ (number ≡ 21)
 
 -- a fault is 0 or 4 to 6
 abbrev Fault : ℕ → Type 0
@@ -95,59 +96,64 @@ faults s end = λ h. omega arith
 faults s (times n) = one-of (eqb n always) (λ _ h. omega arith) (λ _ h. omega arith)
 faults s (present n) = one-of (leb n 7) (λ _. one-of (eqb n 0) (λ _ h. omega arith) (λ _ h. omega arith)) (λ _ h. omega arith)
 
-unless-fault : (n at : ℕ) (v : Verdict) (read : ℕ → Draft → Said) → Fault n → From3To7 (follow v read) → From3To7 (follow (unless n at v) read)
+unless-fault : (n at : ℕ) (v : Verdict) (read : ℕ → Draft → Said) → Fault n → FaultOfLists (follow v read) → FaultOfLists (follow (unless n at v) read)
 unfolding unless
 unless-fault zero at v read h g = g
-unless-fault (suc n) at v read h g = let f = h (omega arith) in omega arith
+unless-fault (suc n) at v read h g = let f = h (omega arith) in inl (omega arith)
 
 -- ---- reading on where records are spelled
 
 module _ (file : List ℕ) where
-  ended-from-3-to-7 : (d : Draft) (next : ℕ) (repeat : Option ℕ) → drop next file ≡ [] → From3To7 (ended file next d repeat)
-  ended-from-3-to-7 d next (some i) nothing = omega arith
-  ended-from-3-to-7 d next none nothing =
-      picked From3To7 (ltb next (length file))
+  unrepeated-fault-of-lists :
+      (d : Draft) (next : ℕ) (unused : Option ℕ) → drop next file ≡ [] → FaultOfLists (unrepeated file next d unused)
+  unrepeated-fault-of-lists d next (some v) nothing = inr (omega arith)
+  unrepeated-fault-of-lists d next none nothing =
+      picked FaultOfLists (ltb next (length file))
       (λ more. absurd (omega (arith, ltb-true next (length file) more, length-drop next file, ap length nothing)))
       (λ _. tt)
 
-  taken-from-3-to-7 :
+  ended-fault-of-lists : (d : Draft) (next : ℕ) (repeat : Option ℕ) → drop next file ≡ [] → FaultOfLists (ended file next d repeat)
+  ended-fault-of-lists d next (some i) nothing = inl (omega arith)
+  ended-fault-of-lists d next none nothing = unrepeated-fault-of-lists d next (firstUnused (d .study)) nothing
+
+  taken-fault-of-lists :
       (at : ℕ) (d : Draft) (next : ℕ) (read : ℕ → Draft → Said) (r : Record) (rs : List Record) → drop next file ≡ spelled rs → EndsLast (r ∷ rs)
-      → (EndsLast rs → (d′ : Draft) → From3To7 (read next d′)) → From3To7 (follow (taken file at d (kindOf r) next r) read)
+      → (EndsLast rs → (d′ : Draft) → FaultOfLists (read next d′)) → FaultOfLists (follow (taken file at d (kindOf r) next r) read)
   unfolding taken spelled
-  taken-from-3-to-7 at d next read (variable n) rs here ends on = on (goes-on (variable n) rs (λ h. omega arith) ends) _
-  taken-from-3-to-7 at d next read (action v p q) rs here ends on = on (goes-on (action v p q) rs (λ h. omega arith) ends) _
-  taken-from-3-to-7 at d next read (condition v q) rs here ends on = on (goes-on (condition v q) rs (λ h. omega arith) ends) _
-  taken-from-3-to-7 at d next read (task v p q) rs here ends on = on (goes-on (task v p q) rs (λ h. omega arith) ends) _
-  taken-from-3-to-7 at d next read (seed n) rs here ends on = on (goes-on (seed n) rs (λ h. omega arith) ends) _
-  taken-from-3-to-7 at d next read end rs here ends on =
-      ended-from-3-to-7 d next (firstRepeat (d .study)) (rw (none-follows rs ends) at here)
-  taken-from-3-to-7 at d next read (times n) rs here ends on = on (goes-on (times n) rs (λ h. omega arith) ends) _
-  taken-from-3-to-7 at d next read (present n) rs here ends on = on (goes-on (present n) rs (λ h. omega arith) ends) _
+  taken-fault-of-lists at d next read (variable n) rs here ends on = on (goes-on (variable n) rs (λ h. omega arith) ends) _
+  taken-fault-of-lists at d next read (action v p q) rs here ends on = on (goes-on (action v p q) rs (λ h. omega arith) ends) _
+  taken-fault-of-lists at d next read (condition v q) rs here ends on = on (goes-on (condition v q) rs (λ h. omega arith) ends) _
+  taken-fault-of-lists at d next read (task v p q) rs here ends on = on (goes-on (task v p q) rs (λ h. omega arith) ends) _
+  taken-fault-of-lists at d next read (seed n) rs here ends on = on (goes-on (seed n) rs (λ h. omega arith) ends) _
+  taken-fault-of-lists at d next read end rs here ends on =
+      ended-fault-of-lists d next (firstRepeat (d .study)) (rw (none-follows rs ends) at here)
+  taken-fault-of-lists at d next read (times n) rs here ends on = on (goes-on (times n) rs (λ h. omega arith) ends) _
+  taken-fault-of-lists at d next read (present n) rs here ends on = on (goes-on (present n) rs (λ h. omega arith) ends) _
 
   -- a look for each record is enough
-  read-on-from-3-to-7 :
-      (rs : List Record) (n at : ℕ) (d : Draft) → drop at file ≡ spelled rs → EndsLast rs → length rs ≤ n → From3To7 (readOn n file at d)
+  read-on-fault-of-lists :
+      (rs : List Record) (n at : ℕ) (d : Draft) → drop at file ≡ spelled rs → EndsLast rs → length rs ≤ n → FaultOfLists (readOn n file at d)
   unfolding readOn spelled
-  read-on-from-3-to-7 [] n at d here ends looks = absurd ends
-  read-on-from-3-to-7 (r ∷ rs) zero at d here ends looks = absurd (omega arith)
-  read-on-from-3-to-7 (r ∷ rs) (suc n) at d here ends looks =
+  read-on-fault-of-lists [] n at d here ends looks = absurd ends
+  read-on-fault-of-lists (r ∷ rs) zero at d here ends looks = absurd (omega arith)
+  read-on-fault-of-lists (r ∷ rs) (suc n) at d here ends looks =
       let there = rest-there file (spelled rs) at r here in
       rw (spelled-verdict file (spelled rs) at r here d)
-      (picked (λ (v : Verdict). From3To7 (follow v (readOn n file))) (allowed d (kindOf r))
+      (picked (λ (v : Verdict). FaultOfLists (follow v (readOn n file))) (allowed d (kindOf r))
       (λ _. unless-fault (fault (d .study) r) at _ (readOn n file) (faults (d .study) r)
-      (taken-from-3-to-7 at d (at + bytesOf r) (readOn n file) r rs there ends
-      (λ e d′. read-on-from-3-to-7 rs n (at + bytesOf r) d′ there e (omega arith))))
-      (λ _. omega arith))
+      (taken-fault-of-lists at d (at + bytesOf r) (readOn n file) r rs there ends
+      (λ e d′. read-on-fault-of-lists rs n (at + bytesOf r) d′ there e (omega arith))))
+      (λ _. inl (omega arith)))
 
 fewer-records : (rs : List Record) → length rs ≤ length (spelled rs)
 unfolding spelled
 fewer-records [] = omega arith
 fewer-records (r ∷ rs) = omega (arith, fewer-records rs, length-append (spelledRecord r) (spelled rs), spelled-length r, some-bytes r)
 
-pub written-from-3-to-7 : (l : Lists) → From3To7 (reading (fileOf l))
+pub written-fault-of-lists : (l : Lists) → FaultOfLists (reading (fileOf l))
 unfolding reading fileOf
-written-from-3-to-7 l =
-    read-on-from-3-to-7 (fileOf l) (recordsOf l) (length (fileOf l) + 1) 0 blank refl (lists-end-last l) (omega (arith, fewer-records (recordsOf l)))
+written-fault-of-lists l =
+    read-on-fault-of-lists (fileOf l) (recordsOf l) (length (fileOf l) + 1) 0 blank refl (lists-end-last l) (omega (arith, fewer-records (recordsOf l)))
 
-pub written-never-1-2-8 : (l : Lists) (number place : ℕ) → reading (fileOf l) ≡ refused number place → (3 ≤ number) × (number ≤ 7)
-written-never-1-2-8 l number place e = subst From3To7 e (written-from-3-to-7 l)
+pub written-never-1-2-8 : (l : Lists) (number place : ℕ) → reading (fileOf l) ≡ refused number place → ((3 ≤ number) × (number ≤ 7)) ⊎ (number ≡ 21)
+written-never-1-2-8 l number place e = subst FaultOfLists e (written-fault-of-lists l)

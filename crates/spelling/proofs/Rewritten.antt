@@ -13,7 +13,8 @@ use Rattle.records.specs.declared.Found.{Found}
 use Rattle.records.specs.declared.Found.the-variants.{There, Unknown, Cut, Ended}
 use Rattle.study.specs.Study.{Study}
 use Rattle.study.specs.Reading.{Said, says, refused, Record, variable, action, condition, task, seed, end, times, present, recordFrom, Draft, tasksLeft, allowed, fault}
-use Rattle.study.specs.Reading.{Verdict, firstRepeat, drafted, ended, taken, unless, judged, verdictAt, reading}
+use Rattle.study.specs.Uses.{firstUnused}
+use Rattle.study.specs.Reading.{Verdict, firstRepeat, drafted, unrepeated, ended, taken, unless, judged, verdictAt, reading}
 use Rattle.study.proofs.Readings.{VerdictHas, verdict-has-both, reading-has}
 use Rattle.lawful.proofs.Order.{Follows, may-follow}
 use Rattle.lawful.proofs.Faults.{Faultless, faultless}
@@ -64,15 +65,20 @@ module _ (file : List ℕ) (Along : ℕ → Type 0) (along : SpelledAlong file A
         on = on;
       }
 
-      ended-rewritten :
-          drop at file ≡ spelledRecord end ++ drop next file → d .last ≡ 5 → (repeat : Option ℕ) → RewrittenIfSaid file (ended file next d repeat)
+      unrepeated-rewritten :
+          drop at file ≡ spelledRecord end ++ drop next file → d .last ≡ 5 → (unused : Option ℕ) → RewrittenIfSaid file (unrepeated file next d unused)
       unfolding fileOf spelled
-      ended-rewritten here last (some i) = tt
-      ended-rewritten here last none = picked (RewrittenIfSaid file) (ltb next (length file)) (λ _. tt) (λ nothing. whole (ltb-false next (length file) nothing))
+      unrepeated-rewritten here last (some v) = tt
+      unrepeated-rewritten here last none = picked (RewrittenIfSaid file) (ltb next (length file)) (λ _. tt) (λ nothing. whole (ltb-false next (length file) nothing))
         where
           whole : length file ≤ next → fileOf (listsOf (d .study)) ≡ file
           whole nothing =
               rw (← all-records d last, spelled-append (soFar d) (end ∷ []), ← drop-of-length-le file nothing, ← here) (between .so-far)
+
+      ended-rewritten :
+          drop at file ≡ spelledRecord end ++ drop next file → d .last ≡ 5 → (repeat : Option ℕ) → RewrittenIfSaid file (ended file next d repeat)
+      ended-rewritten here last (some i) = tt
+      ended-rewritten here last none = unrepeated-rewritten here last (firstUnused (d .study))
 
       taken-rewritten :
           (r : Record) → drop at file ≡ spelledRecord r ++ drop next file

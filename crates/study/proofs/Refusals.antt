@@ -1,6 +1,7 @@
--- A file that is refused is refused with a number from 1 to 8.
+-- A file that is refused is refused with a number from 1 to 8, or with 21.
 -- Assumes nothing.
 use mathlib.Core.Path.{_≡_}
+use mathlib.Core.Logic.{_⊎_, inl, inr, _≢_}
 use mathlib.Core.Bool.{Bool, true, false, not, _&&_}
 use mathlib.Core.Option.{Option, none, some}
 use mathlib.Core.List.{List}
@@ -15,12 +16,26 @@ use Rattle.records.specs.declared.Found.{Found}
 use Rattle.records.specs.declared.Found.the-variants.{There, Unknown, Cut, Ended}
 use Rattle.study.specs.Study.{Study, always}
 use Rattle.study.specs.Reading.{Said, says, refused, Record, variable, action, condition, task, seed, end, times, present, recordFrom, Draft, allowed, inRange, above, lastAction, fault}
-use Rattle.study.specs.Reading.{Verdict, firstRepeat, ended, taken, unless, judged, verdictAt, reading}
+use Rattle.study.specs.Uses.{firstUnused}
+use Rattle.study.specs.Reading.{Verdict, firstRepeat, unrepeated, ended, taken, unless, judged, verdictAt, reading}
 use Rattle.study.proofs.Readings.{VerdictHas, reading-has}
+
+-- the numbers by which a file is refused
+abbrev pub Numbered : ℕ → Type 0
+Numbered number = ((1 ≤ number) × (number ≤ 8)) ⊎ (number ≡ 21)
 
 abbrev pub NumberedIfRefused : Said → Type 0
 NumberedIfRefused (says t) = Unit {0}
-NumberedIfRefused (refused number place) = (1 ≤ number) × (number ≤ 8)
+NumberedIfRefused (refused number place) = Numbered number
+
+pub numbered-some : {number : ℕ} → Numbered number → 1 ≤ number
+numbered-some (inl h) = h .0
+numbered-some (inr e) = omega arith
+
+-- 9 to 20 are no file's
+pub numbered-outside : {number : ℕ} → Numbered number → (other : ℕ) → 9 ≤ other → other ≤ 20 → number ≢ other
+numbered-outside (inl h) other low high e = omega arith
+numbered-outside (inr h) other low high e = omega arith
 
 abbrev NumberedVerdict : Verdict → Type 0
 NumberedVerdict = VerdictHas NumberedIfRefused (λ at d. Unit {0})
@@ -46,9 +61,13 @@ fault-small s end = omega arith
 fault-small s (times n) = small (eqb n always) (λ _. omega arith) (λ _. omega arith)
 fault-small s (present n) = small (leb n 7) (λ _. small (eqb n 0) (λ _. omega arith) (λ _. omega arith)) (λ _. omega arith)
 
+unrepeated-numbered : (file : List ℕ) (next : ℕ) (d : Draft) (unused : Option ℕ) → NumberedIfRefused (unrepeated file next d unused)
+unrepeated-numbered file next d (some v) = inr (omega arith)
+unrepeated-numbered file next d none = picked NumberedIfRefused (ltb next (length file)) (λ _. inl (omega arith)) (λ _. tt)
+
 ended-numbered : (file : List ℕ) (next : ℕ) (d : Draft) (repeat : Option ℕ) → NumberedIfRefused (ended file next d repeat)
-ended-numbered file next d (some i) = omega arith
-ended-numbered file next d none = picked NumberedIfRefused (ltb next (length file)) (λ _. omega arith) (λ _. tt)
+ended-numbered file next d (some i) = inl (omega arith)
+ended-numbered file next d none = unrepeated-numbered file next d (firstUnused (d .study))
 
 taken-numbered : (file : List ℕ) (at : ℕ) (d : Draft) (kind next : ℕ) (r : Record) → NumberedVerdict (taken file at d kind next r)
 unfolding taken
@@ -64,21 +83,21 @@ taken-numbered file at d kind next (present n) = tt
 unless-numbered : (n at : ℕ) (v : Verdict) → n ≤ 6 → NumberedVerdict v → NumberedVerdict (unless n at v)
 unfolding unless
 unless-numbered zero at v small h = h
-unless-numbered (suc n) at v small h = omega arith
+unless-numbered (suc n) at v small h = inl (omega arith)
 
 judged-numbered : (file : List ℕ) (at : ℕ) (d : Draft) (f : Found) → NumberedVerdict (judged file at d f)
 unfolding judged
 judged-numbered file at d (There kind start next) =
     picked NumberedVerdict (allowed d kind)
     (λ _. unless-numbered (fault (d .study) (recordFrom file start kind)) at _ (fault-small (d .study) (recordFrom file start kind)) (taken-numbered file at d kind next (recordFrom file start kind)))
-    (λ _. omega arith)
-judged-numbered file at d (Unknown place) = omega arith
-judged-numbered file at d (Cut kind place) = picked (λ (n : ℕ). (1 ≤ n) × (n ≤ 8)) (allowed d kind) (λ _. omega arith) (λ _. omega arith)
-judged-numbered file at d (Ended place) = omega arith
+    (λ _. inl (omega arith))
+judged-numbered file at d (Unknown place) = inl (omega arith)
+judged-numbered file at d (Cut kind place) = inl (picked (λ (n : ℕ). (1 ≤ n) × (n ≤ 8)) (allowed d kind) (λ _. omega arith) (λ _. omega arith))
+judged-numbered file at d (Ended place) = inl (omega arith)
 
 verdict-numbered : (file : List ℕ) (at : ℕ) (d : Draft) → NumberedVerdict (verdictAt file at d)
 unfolding verdictAt
 verdict-numbered file at d = judged-numbered file at d (recordAt file at)
 
 pub refusals-numbered : (file : List ℕ) → NumberedIfRefused (reading file)
-refusals-numbered file = reading-has NumberedIfRefused (λ at d. Unit {0}) file (omega arith) (λ at d _. verdict-numbered file at d) tt
+refusals-numbered file = reading-has NumberedIfRefused (λ at d. Unit {0}) file (inl (omega arith)) (λ at d _. verdict-numbered file at d) tt

@@ -1,4 +1,4 @@
--- What a file says: a study, or the refusal 1 to 8 with its place. Records are read one by one, and each is tested in the order 2, 3, 1, 4, 5, 6; the end record decides 7, then 8.
+-- What a file says: a study, or the refusal, 1 to 8 with its place or 21 with its variable. Records are read one by one, and each is tested in the order 2, 3, 1, 4, 5, 6; the end record decides 7, then 21, then 8.
 -- Assumes nothing.
 use Prim.Native.Nat.{ℕ, zero, suc, _+_, _-_, _*_}
 use mathlib.Core.Bool.{Bool, true, false, not, _&&_, _||_}
@@ -11,6 +11,7 @@ use Rattle.records.specs.Records.{recordAt, numberOf}
 use Rattle.records.specs.declared.Found.{Found}
 use Rattle.records.specs.declared.Found.the-variants.{There, Unknown, Cut, Ended}
 use Rattle.study.specs.Study.{Condition, Action, Study, always, inForce, actionAt}
+use Rattle.study.specs.Uses.{firstUnused}
 
 -- what a file says
 pub data Said : Type 0 where
@@ -175,10 +176,15 @@ placed places at (present n) = places
 abbrev pub drafted : Draft → ℕ → ℕ → Record → Draft
 drafted d at kind r = record { study = with (d .study) r; last = kind; places = placed (d .places) at r }
 
--- the end record's verdict: 7 at the place of the first action that repeats, then 8
+-- where no action repeats: 21 with the lowest variable that nobody uses, then 8
+abbrev pub unrepeated : List ℕ → ℕ → Draft → Option ℕ → Said
+unrepeated file next d (some v) = refused 21 v
+unrepeated file next d none = pick (ltb next (length file)) (refused 8 next) (says (d .study))
+
+-- the end record's verdict: 7 at the place of the first action that repeats, then 21, then 8
 abbrev pub ended : List ℕ → ℕ → Draft → Option ℕ → Said
 ended file next d (some i) = refused 7 (getD (d .places) i 0)
-ended file next d none = pick (ltb next (length file)) (refused 8 next) (says (d .study))
+ended file next d none = unrepeated file next d (firstUnused (d .study))
 
 -- after a record: what the file says, or the place to read on from with what has been read
 pub data Verdict : Type 0 where

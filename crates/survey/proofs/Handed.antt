@@ -15,7 +15,7 @@ use Rattle.answer.specs.Answers.{done, refusal}
 use Rattle.answer.specs.Allowing.{Exactly}
 use Rattle.study.specs.Study.{Study}
 use Rattle.study.specs.Reading.{Said, says, refused, reading}
-use Rattle.study.proofs.Refusals.{refusals-numbered}
+use Rattle.study.proofs.Refusals.{numbered-some, refusals-numbered}
 use Rattle.varied.specs.Figures.{reportOf}
 use Rattle.varied.specs.Report.{firstOutside, BySeeds, ReportsOn, ReportAllows}
 use Rattle.survey.specs.Input.{firstIn, countIn, fileIn}
@@ -51,7 +51,7 @@ module _ (first n : ℕ) (before : List ℕ) (r : Answer) (after : List ℕ) (ze
 
   fits-said : (file : List ℕ) (said : Said) → reading file ≡ said → ReportsOn said first n before r after → r .first ≤ length before
   fits-said file (refused number place) e p =
-      absurd (omega (arith, ap (λ (x : Answer). x .number) (p .0), (rw e at (refusals-numbered file)) .0))
+      absurd (omega (arith, ap (λ (x : Answer). x .number) (p .0), numbered-some (rw e at (refusals-numbered file))))
   fits-said file (says t) e p = fits-if-few t (leb 1 n && leb n 64) p
 
 pub report-fits :

@@ -17,7 +17,7 @@ use Rattle.answer.specs.Answers.{done, refusal}
 use Rattle.answer.specs.Allowing.{Exactly}
 use Rattle.study.specs.Study.{Study}
 use Rattle.study.specs.Reading.{Said, says, refused, reading}
-use Rattle.study.proofs.Refusals.{refusals-numbered}
+use Rattle.study.proofs.Refusals.{numbered-some, numbered-outside, refusals-numbered}
 use Rattle.lawful.specs.Lawful.{Lawful}
 use Rattle.lawful.specs.Lengths.{longestFile}
 use Rattle.lawful.proofs.Loads.{loads-lawful}
@@ -78,7 +78,7 @@ module _ (first n : ℕ) (before : List ℕ) (room : longestReport ≤ length be
 
   roomy-said : (file : List ℕ) (said : Said) → reading file ≡ said → ReportsOn said first n before r after → r .number ≢ 13
   roomy-said file (refused number place) e p thirteen =
-      omega (arith, ap (λ (x : Answer). x .number) (p .0), (rw e at (refusals-numbered file)) .1)
+      numbered-outside (rw e at (refusals-numbered file)) 13 (omega arith) (omega arith) (omega (arith, ap (λ (x : Answer). x .number) (p .0)))
   roomy-said file (says t) e p thirteen = roomy-if-few t (loads-lawful file t e) (leb 1 n && leb n 64) p thirteen
 
   pub never-13 : (file : List ℕ) → ReportAllows file first n before r after → r .number ≢ 13
@@ -91,4 +91,4 @@ pub cut-file-is-refused :
     → ReportAllows file first n before r after → r .number ≢ 0
 cut-file-is-refused file long first n before r after p zero =
     let (number, (place, said)) = longer-is-refused file long in
-    omega (arith, ap (λ (x : Answer). x .number) ((rw said at p) .0), (rw said at (refusals-numbered file)) .0)
+    omega (arith, ap (λ (x : Answer). x .number) ((rw said at p) .0), numbered-some (rw said at (refusals-numbered file)))

@@ -9,6 +9,7 @@ use lib.ListN.{length, getD}
 use Rattle.bits.specs.Bits
 use Rattle.records.specs.Records
 use Rattle.study.specs.Study
+use Rattle.study.specs.Uses
 use Rattle.study.specs.Reading
 use Rattle.ranking.specs.Ranking
 use Rattle.walks.specs.Traces
@@ -48,7 +49,7 @@ every-row-right : T (everyRow table)
 unfolding
     table Table.porter Table.pair Table.pairAndFree Table.round Table.lent test Rows.outcome
     Reading.reading Reading.readOn Reading.verdictAt Reading.judged Reading.unless Reading.taken Reading.with Reading.placed
-    Reading.fault Reading.above Reading.sets Reading.repeatFrom Reading.mayFollow Reading.decoded Study.inForce Bits.bit
+    Reading.fault Reading.above Reading.sets Reading.repeatFrom Reading.mayFollow Reading.decoded Study.inForce Uses.uses Uses.named Uses.unusedFrom Bits.bit
     Records.recordAt Records.recordOf Records.bodyLength Records.bodyLengths
     Ranking.tested Ranking.testedFrom Ranking.among
     Run.ran Run.runOn Run.failing Run.barred Run.held Run.away
