@@ -1,5 +1,5 @@
 """The files that the calls are measured on: the porter file, files of 10 to 256 actions made from a fixed seed, two of them
-with a set of situations for each action, and the longest file. Each has a straight plan."""
+with a set of situations for each action, and the longest file. Each has a straight plan. And a chart for each of them."""
 
 import random
 import sys
@@ -7,6 +7,7 @@ from pathlib import Path
 
 ROOT = Path(__file__).resolve().parents[1]
 sys.path.insert(0, str(ROOT / "tests"))
+import oracle  # noqa: E402
 import study  # noqa: E402
 
 SIZES = [10, 20, 30, 60, 128, 256]
@@ -75,3 +76,16 @@ def files():
     for actions in WITH_SETS:
         yield f"{actions} with sets", with_sets(made(actions, actions))
     yield "longest", (ROOT / "studies" / "longest.bin").read_bytes()
+
+
+def chart(data, plan):
+    """The actions and the pairs of a file's own chart: all direct orders. Where these are too many, the plan as a chain, and of the
+    direct orders as many as make up the most pairs that a chart may have."""
+    said = oracle.read(data)
+    orders = sorted(oracle.comes_before(said, [oracle.walk_of(said, v) for v in range(len(said.counts))]))
+    if len(orders) > oracle.MOST_PAIRS:
+        rng = random.Random(len(orders))
+        chain = list(zip(plan, plan[1:]))
+        orders = chain + rng.sample(sorted(set(orders) - set(chain)), oracle.MOST_PAIRS - len(chain))
+        rng.shuffle(orders)
+    return bytes(sorted(plan)), bytes(action for pair in orders for action in pair)

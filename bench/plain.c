@@ -429,6 +429,186 @@ marrowkite_record plain_record_at(const uint8_t *file, size_t file_len, uint64_t
   return (marrowkite_record){0, kind, at + 1, len, at + 1 + len};
 }
 
+/* ---- charts ---- */
+
+enum { MOST_PAIRS = 4096, NONE = 256 };
+
+/* Sets of actions by number, in the W words that the file's actions need: 1 or 4, which the compiler knows. A row for each action. */
+PART int has(const uint64_t *set, unsigned i) { return set[i >> 6] >> (i & 63) & 1; }
+PART void put(uint64_t *set, unsigned i) { set[i >> 6] |= 1ull << (i & 63); }
+
+/* The lowest that is in one set and not in the other, or NONE. */
+PART unsigned lowest_outside(const uint64_t *set, const uint64_t *other, unsigned W) {
+  for (unsigned w = 0; w < W; w++) {
+    uint64_t left = set[w] & ~other[w];
+    if (left) return 64 * w + (unsigned)__builtin_ctzll(left);
+  }
+  return NONE;
+}
+
+/* Empties the rows of these actions, which takes less than clearing all. */
+PART void empty(uint64_t *rows, const uint8_t *actions, size_t many, unsigned W) {
+  for (size_t k = 0; k < many; k++)
+    for (unsigned w = 0; w < W; w++) rows[W * actions[k] + w] = 0;
+}
+
+/* The first entry that is not there or out of force, or how many there are. */
+PART size_t first_unusable(const study *s, const uint8_t *actions, size_t many) {
+  size_t k = 0;
+  while (k < many && actions[k] < s->actions && s->in_force[actions[k]]) k++;
+  return k;
+}
+
+/* The lowest action that repeats in the list, is missing in it or is on no walk, or NONE. */
+PART unsigned lowest_amiss(const uint8_t *actions, size_t many, const uint8_t *plan, size_t steps, uint64_t *listed, unsigned W) {
+  static const uint64_t nothing[4] = {0, 0, 0, 0};
+  uint64_t repeated[4] = {0, 0, 0, 0}, amiss[4] = {0, 0, 0, 0};
+  for (size_t k = 0; k < many; k++) {
+    if (has(listed, actions[k])) put(repeated, actions[k]);
+    put(listed, actions[k]);
+  }
+  for (size_t k = 0; k < steps; k++) put(amiss, plan[k]);
+  for (unsigned w = 0; w < W; w++) amiss[w] = (amiss[w] ^ listed[w]) | repeated[w];
+  return lowest_outside(amiss, nothing, W);
+}
+
+/* Enters the pairs; the first that names an action not listed or itself, or how many there are. */
+PART size_t enter_pairs(const uint8_t *pairs, size_t len, const uint8_t *actions, size_t many, uint64_t *rows, unsigned W) {
+  uint8_t listed[256];
+  memset(listed, 0, sizeof listed);
+  for (size_t k = 0; k < many; k++) listed[actions[k]] = 1;
+  size_t k = 0;
+  for (; k < len / 2; k++) {
+    unsigned a = pairs[2 * k], b = pairs[2 * k + 1];
+    if (!listed[a] || !listed[b] || a == b) break;
+    put(rows + W * a, b);
+  }
+  return k;
+}
+
+/* Adds to a row those of all that it has. */
+PART void gather(uint64_t *rows, uint64_t *row, unsigned W) {
+  uint64_t left[4];
+  for (unsigned w = 0; w < W; w++) left[w] = row[w];
+  for (unsigned w = 0; w < W; w++)
+    while (left[w]) {
+      const uint64_t *more = rows + W * (64 * w + (unsigned)__builtin_ctzll(left[w]));
+      left[w] &= left[w] - 1;
+      for (unsigned u = 0; u < W; u++) row[u] |= more[u], left[u] &= ~more[u];
+    }
+}
+
+/* Closes the rows, depth first: a row is gathered when all that it has are closed. 0 if the pairs form a circle. */
+PART int close_rows(const uint64_t *listed, uint64_t *rows, unsigned W) {
+  uint64_t closed[4] = {0, 0, 0, 0}, open[4] = {0, 0, 0, 0};
+  uint8_t path[MOST_ACTIONS];
+  for (unsigned i; (i = lowest_outside(listed, closed, W)) != NONE;) {
+    unsigned depth = 0;
+    for (;;) {
+      put(open, i);
+      unsigned next = lowest_outside(rows + W * i, closed, W);
+      if (next != NONE) {
+        if (has(open, next)) return 0;
+        path[depth++] = (uint8_t)i;
+        i = next;
+        continue;
+      }
+      gather(rows, rows + W * i, W);
+      put(closed, i);
+      if (depth == 0) break;
+      i = path[--depth];
+    }
+  }
+  return 1;
+}
+
+/* How walks meet values: who sets one, and in the high half who leaves it, or for each 64 * W, which is nobody. */
+PART void walk_again(const study *s, uint32_t *met, unsigned W) {
+  for (unsigned at = 0; at < 16 * s->variables; at++) met[at] = (64 * W) << 16 | 64 * W;
+  for (unsigned v = 0; v < s->variables; v++)
+    for (unsigned q = s->goals[v], after = 64 * W;;) {
+      if (q == s->starts[v]) {
+        met[16 * v + q] = after << 16 | 64 * W;
+        break;
+      }
+      unsigned i = s->setter[16 * v + q];
+      met[16 * v + q] = after << 16 | i;
+      after = i;
+      q = s->pre[i];
+    }
+}
+
+/* Enters all direct orders, one pass over the conditions. A row more and a word more take what nobody has. */
+PART void enter_orders(const uint8_t *f, const study *s, const uint8_t *steps, size_t many, uint64_t *orders, unsigned W) {
+  uint32_t met[MOST_VARIABLES * 16];
+  walk_again(s, met, W);
+  for (size_t k = 0; k < many; k++) {
+    unsigned i = steps[k];
+    uint64_t own[5] = {0, 0, 0, 0, 0}, bit = 1ull << (i & 63), *word = orders + (i >> 6);
+    put(own, met[16 * s->variable[i] + s->post[i]] >> 16);
+    for (unsigned at = s->place[i], end = s->end[i]; at < end; at += 3) {
+      unsigned wanted = met[16 * f[at + 1] + f[at + 2]];
+      word[W * (wanted & 0xffff)] |= bit;
+      put(own, wanted >> 16);
+    }
+    for (unsigned w = 0; w < W; w++) orders[W * i + w] |= own[w];
+  }
+}
+
+typedef struct {
+  const uint8_t *file, *actions, *pairs;
+  size_t actions_len, pairs_len;
+} charted;
+
+/* There is a plan, and the chart is within the limits. */
+PART answer vet(charted c, const study *s, const uint8_t *plan, size_t steps, uint64_t *rows, uint64_t *orders, unsigned W) {
+  uint64_t listed[4] = {0, 0, 0, 0};
+  unsigned amiss = lowest_amiss(c.actions, c.actions_len, plan, steps, listed, W);
+  if (amiss != NONE) return refused(25, amiss);
+  empty(rows, plan, steps, W);
+  size_t k = enter_pairs(c.pairs, c.pairs_len, c.actions, c.actions_len, rows, W), many = (c.pairs_len + 1) / 2;
+  if (k < many) return refused(26, k);
+  if (!close_rows(listed, rows, W)) return refused(27, 0);
+  empty(orders, plan, steps, W);
+  enter_orders(c.file, s, plan, steps, orders, W);
+  for (unsigned w = 0; w < W; w++)
+    for (uint64_t left = listed[w]; left; left &= left - 1) {
+      unsigned i = 64 * w + (unsigned)__builtin_ctzll(left), second = lowest_outside(orders + W * i, rows + W * i, W);
+      if (second != NONE) return three(28, i, second);
+    }
+  return three(0, c.actions_len, many);
+}
+
+static answer vet_few(charted c, const study *s, const uint8_t *plan, size_t steps) {
+  uint64_t rows[FEW], orders[FEW + 1];
+  return vet(c, s, plan, steps, rows, orders, 1);
+}
+
+static answer vet_many(charted c, const study *s, const uint8_t *plan, size_t steps) {
+  uint64_t rows[4 * MOST_ACTIONS], orders[4 * MOST_ACTIONS + 4];
+  return vet(c, s, plan, steps, rows, orders, 4);
+}
+
+/* Which plan there is does not matter, so that none is drawn. */
+answer plain_chart(const uint8_t *file, size_t file_len, const uint8_t *actions, size_t actions_len, const uint8_t *pairs,
+                   size_t pairs_len) {
+  study s;
+  uint8_t plan[MOST_ACTIONS], ranks[MOST_ACTIONS], starts[MOST_VARIABLES];
+  answer loaded = load(file, file_len, &s);
+  if (loaded.number != 0) return loaded;
+  for (unsigned i = 0; i < s.actions; i++) ranks[i] = (uint8_t)i;
+  memcpy(starts, s.starts, s.variables);
+  answer planned = plan_loaded(file, ranks, &s, plan, MOST_ACTIONS);
+  if (planned.number != 0) return planned;
+  memcpy(s.starts, starts, s.variables);
+  if (actions_len > MOST_ACTIONS) return refused(19, actions_len);
+  if (pairs_len > 2 * MOST_PAIRS) return refused(19, pairs_len / 2 + pairs_len % 2);
+  size_t k = first_unusable(&s, actions, actions_len);
+  if (k < actions_len) return refused(14, k);
+  charted c = {file, actions, pairs, actions_len, pairs_len};
+  return (s.actions <= FEW ? vet_few : vet_many)(c, &s, plan, planned.first);
+}
+
 /* The lists that a file is written from. */
 typedef struct {
   const uint8_t *counts, *actions, *conditions, *tasks;

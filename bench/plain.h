@@ -17,5 +17,7 @@ marrowkite_answer plain_write(uint8_t situation, const uint8_t *variables, size_
                               size_t tasks_len, uint32_t seed, uint8_t *file, size_t file_len);
 marrowkite_answer plain_report(const uint8_t *file, size_t file_len, uint64_t first, uint64_t n, uint8_t *report,
                                size_t report_len);
+marrowkite_answer plain_chart(const uint8_t *file, size_t file_len, const uint8_t *actions, size_t actions_len,
+                              const uint8_t *pairs, size_t pairs_len);
 
 #endif

@@ -1,5 +1,5 @@
-"""Draws lanes with boxes and values along them, and arrows between these, as SVG. It knows nothing of studies: bin/explain says
-what stands where, and which line is drawn how.
+"""Draws lanes with boxes and values along them, and arrows between these, as SVG. It knows nothing of studies: bin/explain and
+bin/chart say what stands where, and which line is drawn how.
 
 A row holds one box or one value, or two that an arrow joins; only the first holds the starts of all lanes. An arrow leaves
 sideways, runs down or up in the gutter beside its target's lane and enters sideways, or goes straight down its lane: so it

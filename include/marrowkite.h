@@ -43,8 +43,9 @@
  *       the buffer
  *   13  it is too short for the answer                            first: the length needed
  *
- *       the plan that is to be run
- *   14  an entry is no action's number                            first: its index in the plan
+ *       the plan that is to be run, and a chart's list
+ *   14  an entry is no action's number; in a chart's list also:
+ *       an action out of force                                    first: its index in the plan or the list
  *   20  the action is out of force (tested before 15)             first: its index in the plan
  *   15  the action may not be done                                first: the index; second: the action's own variable
  *                                                                 if pre fails, else the lowest variable whose
@@ -52,10 +53,21 @@
  *   16  the step takes a value that was held before               first: the index; second: the variable
  *   17  all steps are done and the goal is not met                first: the lowest variable away from it
  *
- *       the draw, and a report's seeds
+ *       the draw, a report's seeds, a chart's lengths
  *   18  the seed is not 1 to 2,147,483,646                        first: the seed; in a report the first such
- *   19  the count is above 256; a report on no seed, or on more than 64
+ *   19  the count is above 256; a report on no seed, or on more than 64;
+ *       a chart of more than 256 actions, or else of more than 4,096 pairs
  *                                                                 first: the count
+ *
+ *       the chart
+ *   25  an action repeats in the list, is on a walk and missing
+ *       in it, or is in it and on no walk                         first: the lowest such action
+ *   26  a pair names an action that is not listed, or itself      first: the pair's index
+ *   27  the pairs form a circle
+ *   28  no chain of pairs puts an action before one that has to
+ *       come directly after it: the next of its walk, one that
+ *       wants what it sets, or the one that leaves what it wants  first, second: the lowest such two actions, by
+ *                                                                 first and then second
  *
  *
  * MEMORY
@@ -85,6 +97,7 @@
  *   marrowkite_record_at        128
  *   marrowkite_write            640
  *   marrowkite_report        10,240
+ *   marrowkite_chart         13,312
  */
 #ifndef MARROWKITE_H
 #define MARROWKITE_H
@@ -185,6 +198,15 @@ marrowkite_answer marrowkite_write(uint8_t situation, const uint8_t *variables, 
  */
 marrowkite_answer marrowkite_report(const uint8_t *file, size_t file_len, uint64_t first, uint64_t n, uint8_t *report,
                                     size_t report_len);
+
+/*
+ * Checks a chart: a list of actions, one byte each, and pairs, two bytes each, the first to be done before the second. A lone last
+ * byte pairs its action with itself, and counts. 1 to 8 and 21, then 10, 11, 12, 19, 14, 25, 26, 27, 28.
+ * Done: at least one order of the list keeps all pairs, and every order that does is a straight plan. first is how many actions
+ * are listed, second how many pairs were lent. With 10 to 12, 14 and 25 to 28 that is not so. Nothing is written.
+ */
+marrowkite_answer marrowkite_chart(const uint8_t *file, size_t file_len, const uint8_t *actions, size_t actions_len,
+                                   const uint8_t *pairs, size_t pairs_len);
 
 #ifdef __cplusplus
 }

@@ -14,13 +14,14 @@ buffer afterwards):
     draw(seed, count, buffer)
     write(situation, variables, actions, conditions, tasks, seed, buffer)
     report(file, first, count, buffer)
+    chart(file, actions, pairs)
 
-record_at and check write nothing; their buffer afterwards is b"". `printed(input)` is what the program prints.
-`calls(seed, n)` yields n calls as (name, inputs), all but writes and reports, `writes(seed, n)` n writes and `reports(seed, n)` n
-reports; `answer(name, inputs)` is what such a call answers.
+record_at, check and chart write nothing; their buffer afterwards is b"". `printed(input)` is what the program prints.
+`calls(seed, n)` yields n calls as (name, inputs), all but writes, reports and charts; `writes(seed, n)`, `reports(seed, n)` and
+`charts(seed, n)` yield n of these; `answer(name, inputs)` is what such a call answers.
 
     python3 tests/oracle.py --self-test      document 01's worked cases; both ways of planning on random small files; where
-                                             walks break, by following the trace
+                                             walks break, by following the trace; charts, by trying every order
 """
 
 import itertools
@@ -37,6 +38,7 @@ BODY_LENGTH = {VARIABLE: 1, ACTION: 3, CONDITION: 2, TASK: 3, SEED: 4, END: 0, S
 MOST_VARIABLES, MOST_VALUES, MOST_ACTIONS = 32, 16, 256
 LARGEST_SEED = 2147483646
 MOST_SEEDS = 64
+MOST_PAIRS = 4096
 LONGEST_FILE = 25544
 MOST_SITUATION = 7
 ALWAYS = 255  # the set of all eight situations, which is not written
@@ -44,6 +46,9 @@ CAME_ROUND = 255  # the second number of 10 where the trace comes round
 
 # Planning tries every list if there are no more lists than this; the self-test tries many more.
 LISTS_TO_TRY = 300
+
+# A chart of no more actions than this is decided by trying every order too; the self-test tries some of one more.
+ACTIONS_TO_TRY = 6
 
 
 @dataclass
@@ -650,6 +655,88 @@ def report(file, first, count, buffer):
         return refused.numbers, buffer
 
 
+def pairs_in(data):
+    """The pairs that bytes stand for, two each; a lone last byte pairs its action with itself."""
+    return [(data[at], data[min(at + 1, len(data) - 1)]) for at in range(0, len(data), 2)]
+
+
+def usable(study, number):
+    return number < len(study.actions) and in_force(study, study.actions[number])
+
+
+def amiss(walks, actions):
+    """The actions that repeat in the list, are missing in it or are on no walk."""
+    on_walks = set(walk_actions(walks))
+    return {a for a in actions if actions.count(a) > 1 or a not in on_walks} | on_walks - set(actions)
+
+
+def judge_chart(study, actions, pairs):
+    """Raises Refused with 10 to 12, 19, 14 or 25 to 28."""
+    planned(study, range(len(study.actions)))
+    if len(actions) > MOST_ACTIONS:
+        raise Refused(19, len(actions))
+    if len(pairs) > MOST_PAIRS:
+        raise Refused(19, len(pairs))
+    for index, number in enumerate(actions):
+        if not usable(study, number):
+            raise Refused(14, index)
+    walks = [walk_of(study, v) for v in range(len(study.counts))]
+    if amiss(walks, actions):
+        raise Refused(25, min(amiss(walks, actions)))
+    for index, (a, b) in enumerate(pairs):
+        if a == b or a not in actions or b not in actions:
+            raise Refused(26, index)
+    after = closure(pairs, actions)
+    if on_rings(after):
+        raise Refused(27, 0)
+    for a, b in sorted(comes_before(study, walks)):
+        if not after[a] >> b & 1:
+            raise Refused(28, a, b)
+
+
+def stands_before(a, b, order):
+    return a in order and b in order[order.index(a) + 1 :]
+
+
+def is_straight(study, steps):
+    try:
+        end_state(study, steps)
+    except Refused:
+        return False
+    return True
+
+
+def accepted(study, actions, pairs):
+    """By trying every order of the list: some order keeps all pairs, and every one that does is a straight plan."""
+    some = False
+    for order in set(itertools.permutations(actions)):
+        if all(stands_before(a, b, order) for a, b in set(pairs)):
+            if not is_straight(study, order):
+                return False
+            some = True
+    return some
+
+
+def judged_chart(study, actions, pairs, actions_to_try=ACTIONS_TO_TRY):
+    """The three numbers. Of a small chart within the limits every order is tried: it has to be accepted exactly if the number is 0."""
+    numbers = 0, len(actions), len(pairs)
+    try:
+        judge_chart(study, actions, pairs)
+    except Refused as refused:
+        numbers = refused.numbers
+    if numbers[0] != 19 and len(actions) <= actions_to_try:
+        assert (numbers[0] == 0) == accepted(study, actions, pairs), f"{numbers} for {actions}, {pairs} of {study}"
+    return numbers
+
+
+def chart(file, actions, pairs):
+    try:
+        study = read(file)
+    except Refused as refused:
+        return refused.numbers, b""
+    return judged_chart(study, list(actions), pairs_in(pairs)), b""
+
+
 CALLS = {
     "record_at": record_at,
     "check": check,
@@ -659,6 +746,7 @@ CALLS = {
     "draw": draw,
     "write": write,
     "report": report,
+    "chart": chart,
 }
 
 
@@ -1513,6 +1601,219 @@ def reports(seed, n):
 
 
 # ---------------------------------------------------------------------------------------------------------------------
+# Charts
+
+
+@dataclass
+class Draft:
+    """A chart in the making: its study, an order that is a straight plan (any list, if there is none), its actions and pairs. Each
+    function from here to FAULTS takes a random.Random and a draft and alters it; where that cannot be, it leaves it."""
+
+    study: Study
+    order: list
+    actions: list
+    pairs: list
+
+
+def own_draft(rng, study):
+    """The walk actions and all direct orders; of a study without a plan some actions as a chain."""
+    count = len(study.actions)
+    try:
+        order = list(planned_by_walks(study, rank_list(rng, count)))
+    except Refused:
+        order = rng.sample(range(count), rng.randint(0, count))
+        return Draft(study, order, sorted(order), list(zip(order, order[1:])))
+    walks = [walk_of(study, v) for v in range(len(study.counts))]
+    return Draft(study, order, sorted(order), sorted(comes_before(study, walks)))
+
+
+def keep_as_it_is(rng, draft):
+    pass
+
+
+def take_the_order(rng, draft):
+    draft.pairs = list(zip(draft.order, draft.order[1:]))
+
+
+def put_chain_for_pair(rng, draft):
+    """In place of some pairs, two by way of an action between."""
+    at = {number: index for index, number in enumerate(draft.order)}
+    for _ in range(rng.choice([1, 1, 2, 4])):
+        apart = [index for index, (a, b) in enumerate(draft.pairs) if at[b] - at[a] > 1]
+        if apart:
+            a, b = draft.pairs.pop(rng.choice(apart))
+            middle = draft.order[rng.randrange(at[a] + 1, at[b])]
+            draft.pairs += [(a, middle), (middle, b)]
+
+
+def drop_needless_pairs(rng, draft):
+    for pair in rng.sample(draft.pairs, min(len(draft.pairs), 40)):
+        others = [other for other in draft.pairs if other != pair]
+        if closure(others, draft.actions)[pair[0]] >> pair[1] & 1:
+            draft.pairs = others
+
+
+def add_pairs_along(rng, draft):
+    if len(draft.order) > 1:
+        for _ in range(rng.randint(1, 6)):
+            i, j = sorted(rng.sample(range(len(draft.order)), 2))
+            draft.pairs.append((draft.order[i], draft.order[j]))
+
+
+def repeat_pairs(rng, draft):
+    if draft.pairs:
+        draft.pairs += rng.choices(draft.pairs, k=rng.randint(1, 4))
+
+
+def shuffle_lists(rng, draft):
+    rng.shuffle(draft.actions)
+    rng.shuffle(draft.pairs)
+
+
+def leave_pairs_out(rng, draft):
+    for _ in range(min(len(draft.pairs), rng.choice([1, 1, 1, 2, 3]))):
+        del draft.pairs[rng.randrange(len(draft.pairs))]
+
+
+def leave_out_a_leaver(rng, draft):
+    """A pair of rule (c): who wants a value, before who leaves it."""
+    actions = draft.study.actions
+    named = [pair for pair in draft.pairs if max(pair) < len(actions)]
+    leaving = [(a, b) for a, b in named if (actions[b].variable, actions[b].pre) in actions[a].conditions]
+    if leaving:
+        draft.pairs.remove(rng.choice(leaving))
+
+
+def turn_pairs_round(rng, draft):
+    for _ in range(min(len(draft.pairs), rng.choice([1, 1, 2]))):
+        index = rng.randrange(len(draft.pairs))
+        turned = draft.pairs[index][::-1]
+        if rng.random() < 0.5:
+            draft.pairs[index] = turned
+        else:
+            draft.pairs.append(turned)
+
+
+def add_any_pairs(rng, draft):
+    for _ in range(rng.choice([1, 1, 2]) if draft.actions else 0):
+        draft.pairs.append((rng.choice(draft.actions), rng.choice(draft.actions)))
+
+
+def leave_entries_out(rng, draft):
+    for _ in range(min(len(draft.actions), rng.choice([1, 1, 2]))):
+        del draft.actions[rng.randrange(len(draft.actions))]
+
+
+def put_entry_in(rng, draft):
+    """An entry repeats, or is any action, or one out of force, or none; perhaps in another's place."""
+    count = len(draft.study.actions)
+    barred = [number for number in range(count) if not usable(draft.study, number)]
+    entry = rng.choice([min(count, 255), 255, rng.randrange(256)])
+    if rng.random() < 0.8:
+        entry = rng.choice(rng.choice([draft.actions, range(count), barred]) or [min(count, 255)])
+    at = rng.randint(0, len(draft.actions))
+    draft.actions[at : at + rng.choice([0, 0, 1])] = [entry]
+
+
+def put_pair_in(rng, draft):
+    """A pair with an action that is not listed, with itself, with a number that is no action."""
+    count = len(draft.study.actions)
+    this = rng.choice(draft.actions or [0])
+    that = rng.choice([this, min(count, 255), rng.randrange(256), rng.randint(0, min(count, 255))])
+    draft.pairs.insert(rng.randint(0, len(draft.pairs)), rng.choice([(this, that), (that, this)]))
+
+
+WAYS = [keep_as_it_is, keep_as_it_is, take_the_order, put_chain_for_pair, drop_needless_pairs]
+MORE = [add_pairs_along, repeat_pairs, shuffle_lists]
+FAULTS = [leave_pairs_out, leave_pairs_out, leave_out_a_leaver, leave_out_a_leaver, turn_pairs_round, add_any_pairs]
+FAULTS += [leave_entries_out, put_entry_in, put_entry_in, put_pair_in]
+
+
+def altered(rng, draft):
+    rng.choice(WAYS)(rng, draft)
+    for more in rng.sample(MORE, rng.randint(0, 3)):
+        more(rng, draft)
+    for _ in range(rng.choice([0, 1, 1, 2]) if rng.random() < 0.75 else 0):
+        rng.choice(FAULTS)(rng, draft)
+    return draft
+
+
+def chart_of(rng, draft, file):
+    """The call, now and then with a lone last byte."""
+    pairs = bytes(byte for pair in draft.pairs for byte in pair)
+    if rng.random() < 0.06:
+        pairs = pairs[:-1] if rng.random() < 0.5 else pairs + bytes([rng.choice(draft.actions or [0])])
+    return "chart", (file, bytes(draft.actions), pairs)
+
+
+def with_several_plans(rng):
+    """Few steps, and few conditions."""
+    while True:
+        study = each_used(rng, solvable(rng, 4, 3, 2))
+        steps = sum(len(walk_of(study, v)) for v in range(len(study.counts)))
+        if 2 <= steps <= ACTIONS_TO_TRY:
+            return in_a_situation(rng, study) if rng.random() < 0.3 else study
+
+
+def chart_on_small(rng):
+    study = rng.choices([small_study, with_several_plans], [1, 2])[0](rng)
+    return chart_of(rng, altered(rng, own_draft(rng, study)), file_of(study))
+
+
+def chart_at_rest(rng):
+    """Start and goal agree, and the empty chart is accepted."""
+    study = small_study(rng)
+    study.tasks = [(start, start) for start, _ in study.tasks]
+    draft = own_draft(rng, study)
+    return chart_of(rng, rng.choice([keep_as_it_is, altered])(rng, draft) or draft, file_of(study))
+
+
+def filled_up(rng, entries, spare, length):
+    """The entries with as many more, shuffled in, as make up the length."""
+    entries = (entries + [rng.choice(spare) for _ in range(length - len(entries))])[:length]
+    rng.shuffle(entries)
+    return entries
+
+
+def chart_at_limits(rng):
+    """On any study: 256 actions or 257; 4,096 pairs or 4,097, all along the order, the last of them lone or not."""
+    study = rng.choices([large_study, most_steps, longest, with_several_plans], [2, 3, 3, 1])[0](rng)
+    draft = own_draft(rng, study)
+    way = rng.randrange(5)
+    if way == 0 or len(draft.order) < 2:
+        spare = draft.actions or [0]
+        draft.actions = filled_up(rng, draft.actions, spare, rng.choice([255, 256, 257, 257, 300]))
+        return chart_of(rng, draft, file_of(study))
+    take_the_order(rng, draft)
+    along = [(draft.order[i], b) for i in range(len(draft.order)) for b in draft.order[i + 1 :]]
+    draft.pairs = filled_up(rng, draft.pairs, along, rng.choice([len(draft.pairs), 4095, 4096, 4096, 4097]))
+    if way > 2:
+        rng.choice(FAULTS)(rng, draft)
+    return chart_of(rng, draft, file_of(study))
+
+
+def chart_on_middling(rng):
+    study = rng.choices([middling, large_study], [4, 1])[0](rng)
+    draft = own_draft(rng, study)
+    for change in rng.sample([take_the_order, shuffle_lists, rng.choice(FAULTS)], rng.randint(0, 3)):
+        change(rng, draft)
+    return chart_of(rng, draft, file_of(study))
+
+
+def chart_on_damaged(rng):
+    file = rng.choices([damaged_file, beyond_limits, with_an_action_again], [8, 1, 1])[0](rng)
+    return chart_of(rng, altered(rng, own_draft(rng, small_study(rng))), file)
+
+
+def charts(seed, n):
+    """Yields n charts, the same for the same seed and n."""
+    rng = random.Random(seed)
+    makers = [chart_on_small, chart_at_rest, chart_on_middling, chart_at_limits, chart_on_damaged]
+    for _ in range(n):
+        yield rng.choices(makers, [800, 20, 20, 20, 140])[0](rng)
+
+
+# ---------------------------------------------------------------------------------------------------------------------
 # Self-test
 
 PORTER = bytes.fromhex(
@@ -1959,7 +2260,94 @@ ANSWERS_TO_MEET = {
     "draw": {0, 13, 18, 19},
     "write": {0, 3, 4, 5, 6, 7, 13, 21},
     "report": set(range(9)) | {13, 18, 19, 21},
+    "chart": set(range(9)) | {10, 11, 12, 14, 19, 21, 25, 26, 27, 28},
 }
+
+
+def worked_charts():
+    """Charts worked by hand: the file, the actions and the pairs, in hexadecimal, and the three numbers. The porter's direct orders
+    are 0 before 2 and 3, 1 before 2 and 3, 3 before 2; its two straight plans are 0 1 3 2 and 1 0 3 2."""
+    orders = "0002 0003 0102 0103 0302"
+    listed = "00010203"
+    yield PORTER, listed, orders, (0, 4, 5)
+    yield PORTER, "03020100", "0302 0103 0102 0003 0002", (0, 4, 5)
+    yield PORTER, listed, "0003 0103 0302", (0, 4, 3)  # chains in place of two direct orders
+    yield PORTER, listed, "0001 0103 0302", (0, 4, 3)  # each of its plans as a chain
+    yield PORTER, listed, "0100 0003 0302", (0, 4, 3)
+    yield PORTER, listed, "0001 0103 0302 0100", (27, 0, 0)
+    yield PORTER, listed, orders + "0002 0002", (0, 4, 7)
+    yield PORTER, listed, "0003 0103 0102 0002", (28, 3, 2)
+    yield PORTER, listed, "0002 0102 0302 0103", (28, 0, 3)
+    yield PORTER, listed, "0302", (28, 0, 2)  # the lowest of four that are lacking
+    yield PORTER, listed, "0203 0003 0103", (28, 0, 2)
+    yield PORTER, listed, "", (28, 0, 2)
+    yield PORTER, listed, "00", (26, 0, 0)
+    yield PORTER, listed, orders + "02", (26, 5, 0)
+    yield PORTER, listed, orders + "0303", (26, 5, 0)
+    yield PORTER, listed, orders + "0004", (26, 5, 0)
+    yield PORTER, listed, "0001 0401 0100", (26, 1, 0)  # 26 comes before 27
+    yield PORTER, listed, "ff00", (26, 0, 0)
+    yield PORTER, "000102", orders, (25, 3, 0)
+    yield PORTER, "0102", orders, (25, 0, 0)
+    yield PORTER, "", "", (25, 0, 0)
+    yield PORTER, "0001020303", orders, (25, 3, 0)
+    yield PORTER, "0001020304", orders, (25, 4, 0)
+    yield PORTER, "04000302", orders, (25, 1, 0)  # the lowest of the three kinds together
+    yield PORTER, "00010503", orders, (14, 2, 0)
+    yield PORTER, "ff", "", (14, 0, 0)
+    yield PORTER, "00" * 257, "", (19, 257, 0)
+    yield PORTER, "00" * 256, "", (25, 0, 0)
+    yield PORTER, "05" * 256, "", (14, 0, 0)
+    yield PORTER, "00" * 257, "00" * 8193, (19, 257, 0)
+    yield PORTER, "ff", "00" * 8193, (19, 4097, 0)
+    yield PORTER, listed, orders + "0002" * 4091, (0, 4, 4096)
+    yield PORTER, listed, orders + "0002" * 4091 + "00", (19, 4097, 0)
+    yield PORTER, listed, orders + "0002" * 4090 + "00", (26, 4095, 0)
+    yield porter((0, 0, 0)), "", "", (0, 0, 0)
+    yield porter((0, 0, 0)), "00", "", (25, 0, 0)
+    yield porter((0, 0, 0)), "", "0001", (26, 0, 0)
+    yield porter((0, 2, 1)), "00" * 257, "00", (11, 2, 0)
+    yield porter((1, 0, 1), (0, 2, 0)), "", "", (10, 1, 0)
+    yield two_wanting(1), "0001", "0001 0100", (12, 0, 0)
+    yield PORTER[:55], "00" * 257, "00", (1, 55, 0)
+    # (c): action 0 wants variable 1 at 0, which action 1 leaves
+    leaver = file_of(Study([2, 2], [Action(0, 0, 1, [(1, 0)]), Action(1, 0, 1)], [(0, 1), (0, 1)], 1))
+    yield leaver, "0001", "0001", (0, 2, 1)
+    yield leaver, "0001", "", (28, 0, 1)
+    yield leaver, "0001", "0100", (28, 0, 1)
+    # an action out of force is there, and may not be used
+    night = file_of(Study([2], [Action(0, 0, 1), Action(0, 1, 0, [], 2)], [(0, 1)], 1))
+    yield night, "00", "", (0, 1, 0)
+    yield night, "0001", "", (14, 1, 0)
+    yield night, "00", "0001", (26, 0, 0)
+
+
+def inputs_of_worked_chart(file, actions, pairs):
+    return file, bytes.fromhex(actions), bytes.fromhex(pairs)
+
+
+def test_worked_charts():
+    cases = list(worked_charts())
+    for *call, numbers in cases:
+        given = chart(*inputs_of_worked_chart(*call))
+        assert given == (numbers, b""), f"chart {call}: {given} and not {numbers}"
+    return f"{len(cases)} charts worked by hand: agreed"
+
+
+def test_charts_by_orders(seed, n):
+    """Small charts, by every order too: how many were tried, how many of them are accepted, how many leave several orders."""
+    rng = random.Random(seed)
+    seen, longer = Counter(), 0
+    for _ in range(n):
+        _, (file, actions, data) = chart_on_small(rng)
+        study, pairs = read(file), pairs_in(data)
+        numbers = judged_chart(study, list(actions), pairs, ACTIONS_TO_TRY + 1)
+        longer += len(actions) > ACTIONS_TO_TRY + 1
+        seen[numbers[0]] += 1
+    assert all(seen[number] > n // 100 for number in (0, 10, 11, 12, 14, 25, 26, 27, 28)), seen
+    assert longer < n // 5, longer
+    tally = ", ".join(f"{number}: {seen[number]}" for number in sorted(seen))
+    return f"{n} small charts, every order of {n - longer} tried: agreed ({tally})"
 
 
 def test_reports():
@@ -1995,8 +2383,8 @@ def test_calls(seed, n):
     """Every call can be answered; a refusal alters nothing; each call meets each of its answers, and all limits are met."""
     seen = {name: Counter() for name in CALLS}
     longest_file = longest_plan = longest_written = 0
-    drawn_edges = set()
-    for name, inputs in itertools.chain(calls(seed, n), writes(seed, n // 5), reports(seed, n // 20)):
+    drawn_edges, most_charted = set(), (0, 0)
+    for name, inputs in itertools.chain(calls(seed, n), writes(seed, n // 5), reports(seed, n // 20), charts(seed, n // 10)):
         numbers, buffer = answer(name, inputs)
         seen[name][numbers[0]] += 1
         if name in ("plan", "plan_seeded", "run", "draw", "write", "report"):
@@ -2005,6 +2393,8 @@ def test_calls(seed, n):
             drawn_edges.add((inputs[0], inputs[1], len(inputs[2])))
         elif name == "write":
             longest_written = max(longest_written, numbers[1] if numbers[0] == 0 else 0)
+        elif name == "chart":
+            most_charted = max(most_charted, numbers[1:] if numbers[0] == 0 else (0, 0))
         elif name != "record_at" and numbers[0] == 0:
             longest_file = max(longest_file, len(inputs[0]))
             if name == "check":
@@ -2017,8 +2407,10 @@ def test_calls(seed, n):
     assert set(draw_edges()) <= drawn_edges
     assert (longest_file, longest_plan, longest_written) == (LONGEST_FILE, 256, LONGEST_FILE), (longest_file, longest_plan)
     assert list(calls(seed, 300)) == list(calls(seed, 300)) and list(writes(seed, 300)) == list(writes(seed, 300))
-    assert list(reports(seed, 100)) == list(reports(seed, 100))
-    lines = [f"{n + n // 5 + n // 20} calls answered, each answer of each call met, a file of {longest_file} bytes and a plan of 256 steps too"]
+    assert most_charted == (256, MOST_PAIRS), most_charted
+    assert list(reports(seed, 100)) == list(reports(seed, 100)) and list(charts(seed, 100)) == list(charts(seed, 100))
+    answered = sum(sum(tally.values()) for tally in seen.values())
+    lines = [f"{answered} calls answered, each answer of each call met, a file of {longest_file} bytes and a plan of 256 steps too"]
     for name in CALLS:
         tally = ", ".join(f"{number}: {seen[name][number]}" for number in sorted(seen[name]))
         lines.append(f"  {name} {sum(seen[name].values())} ({tally})")
@@ -2058,6 +2450,8 @@ def self_test():
         (test_file_cases, ()),
         (test_worked_writes, ()),
         (test_reports, ()),
+        (test_worked_charts, ()),
+        (test_charts_by_orders, (1, 2000)),
         (test_limits, (1,)),
         (test_both_ways, (1, 5000)),
         (test_calls, (1, 20000)),

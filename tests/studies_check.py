@@ -1,10 +1,11 @@
 """Checks studies/: each NAME.bin is what bin/make-study makes of NAME.study, and each NAME.out what the oracle says that the
 program prints for NAME.bin, each NAME.explained what the explainer of tests/explain says; each NAME.names and NAME.why has these
-lines with the table's words; and bin/make-study itself: its mistakes, the refusals that it shows, --names and --show. It
-proves and builds the writer where that is still to be done. The last line is 'N passed, M failed'.
+lines with the table's words; each NAME.charted is what the oracle says of NAME.chart, in words; and bin/make-study itself: its
+mistakes, the refusals that it shows, --names and --show. It proves and builds the writer where that is still to be done. The
+last line is 'N passed, M failed'.
 
     python3 tests/studies_check.py             checks
-    python3 tests/studies_check.py --write     writes every file but the tables anew, then checks
+    python3 tests/studies_check.py --write     writes every file but tables and charts anew, then checks
 """
 
 import importlib.util
@@ -56,6 +57,9 @@ IN_WORDS = ["porter", "hotel", "night-porter"]
 
 # The studies of which what bin/variety prints, for 64 seeds from 1, is stored.
 VARIED = ["porter", "hotel"]
+
+# The charts, and the studies that they are of: what bin/chart prints of each is stored.
+CHARTED = {"porter": "porter", "hotel": "hotel", "hotel-short": "hotel"}
 
 # The studies whose explanations are stored in words too: each kind of line is among them.
 WHY = ["porter", "night-porter", "no-walk", "cart-back", "wrong-badge", "doorman"]
@@ -285,6 +289,32 @@ def why(name):
     return "".join(f"{line_in_words(name, line)}\n" for line in stored(name, ".explained").decode().splitlines())
 
 
+def chart_lines(name):
+    """The lines of a chart, by number, as lists of names. Those of studies/ are chains all."""
+    lines = enumerate(stored(name, ".chart").decode().splitlines(), 1)
+    return {number: line.split(" before ") for number, line in lines if line and not line.startswith("#")}
+
+
+def charted(name):
+    """What bin/chart prints of a chart that is accepted or lacks an order, by the oracle; nothing is shared with bin/chart."""
+    study = CHARTED[name]
+    numbers = {action.split(":")[0]: number for number, action in enumerate(actions_in_words(study))}
+    first_lines, pairs = {}, []
+    for number, chain in chart_lines(name).items():
+        for action in chain:
+            first_lines.setdefault(action, number)
+        pairs += zip(chain, chain[1:])
+    lent = [bytes(numbers[action] for action in first_lines), bytes(numbers[action] for pair in pairs for action in pair)]
+    (answer, *more), _ = oracle.chart(stored(study, ".bin"), *lent)
+    if answer == 0:
+        return "chart {} {}  accepted: every order that keeps these {} pairs is a straight plan\n".format(*more, len(pairs))
+    assert answer == 28, f"{name}.chart is refused with {answer}"
+    one, other = (list(numbers)[number] for number in more)
+    lines = [f"refused 28 {more[0]} {more[1]}  {one} must come before {other}, and no chain of pairs says so"]
+    lines += [f"studies/{name}.chart:{first_lines[action]}: {action} is first named here" for action in (one, other)]
+    return "".join(f"{line}\n" for line in lines)
+
+
 def refusal_of(name):
     """What bin/make-study says of a table that it makes no study of."""
     said = command(STUDIES / f"{name}.study", "-o", "-")
@@ -320,6 +350,8 @@ def write_all():
         (STUDIES / f"{name}.names").write_text(in_words(name))
     for name in VARIED:
         (STUDIES / f"{name}.variety").write_text(variety(name))
+    for name in CHARTED:
+        (STUDIES / f"{name}.charted").write_text(charted(name))
 
 
 def check_study(name, first_line):
@@ -343,11 +375,35 @@ def check_variety(name):
     expect(stored(name, ".variety").decode() == variety(name), f"{name}.variety is not what the oracle's report says")
 
 
+def check_charted(name):
+    expect(stored(name, ".charted").decode() == charted(name), f"{name}.charted is not what the oracle says of the chart")
+
+
+def check_charts():
+    """What the charts are there for: the partner's has fewer pairs than the study has direct orders, and the short one lacks a
+    single order, by rule (c), of two actions of different variables of which neither sets what the other wants."""
+    hotel = oracle.read(stored("hotel", ".bin"))
+    direct = oracle.comes_before(hotel, [oracle.walk_of(hotel, v) for v in range(len(hotel.counts))])
+    chains = {name: sum(len(chain) - 1 for chain in chart_lines(name).values()) for name in CHARTED}
+    expect((len(direct), chains["hotel"], chains["hotel-short"]) == (45, 22, 21), f"{len(direct)} direct orders, and pairs {chains}")
+    first, second = stored("hotel-short", ".charted").decode().split()[2:4]
+    one, other = (hotel.actions[int(number)] for number in (first, second))
+    expect(one.variable != other.variable and (one.variable, one.post) not in other.conditions, "the order that lacks is (a) or (b)")
+    expect((other.variable, other.pre) in one.conditions, "the order that lacks is not (c)")
+    porter = oracle.read(oracle.PORTER)
+    own = oracle.comes_before(porter, [oracle.walk_of(porter, v) for v in range(len(porter.counts))])
+    data = (ROOT / "crates" / "vet" / "stdin").read_bytes()
+    expect(data[:8] == bytes([0, 4, 0, 10, 0, 1, 2, 3]) and data[18:] == oracle.PORTER, "crates/vet/stdin is no chart of the porter")
+    expect({*oracle.pairs_in(data[8:18])} == {*own}, "crates/vet/stdin does not have the porter's own orders")
+    expect((ROOT / "crates" / "vet" / "stdout").read_text() == "chart 4 5\n", "crates/vet/stdout")
+
+
 def check_folder():
     """Nothing is left over in the folder."""
     named = {name + suffix for name in FIRST_LINES for suffix in (".study", ".bin", ".out", ".explained")} - {"longest.study"}
     named |= {name + suffix for name in REFUSED for suffix in (".study", ".refused")}
     named |= {f"{name}.names" for name in IN_WORDS} | {f"{name}.variety" for name in VARIED} | {f"{name}.why" for name in WHY}
+    named |= {name + suffix for name in CHARTED for suffix in (".chart", ".charted")}
     there = {path.name for path in STUDIES.iterdir()} - {"README.md"}
     expect(named == there, f"studies/ lacks {sorted(named - there)} or has {sorted(there - named)} too many")
 
@@ -393,10 +449,14 @@ def check_explanations():
 
 
 def check_pages():
-    """The explanations that the pages show are those of the studies."""
+    """The explanations and the charts that the pages show are those of the studies."""
     for page, names in {"README.md": ["ring"], "docs/EXPLAIN.md": ["porter", "doorman"]}.items():
         shown = re.findall(r"```\n\$ bin/explain studies/(\S+)\.study\n(.*?)```", (ROOT / page).read_text(), re.DOTALL)
         expect(shown == [(name, why(name)) for name in names], f"{page} does not show what bin/explain prints of {names}")
+    for page, names in {"README.md": ["hotel-short"], "docs/CHARTS.md": ["porter", "hotel", "hotel-short"]}.items():
+        shown = re.findall(r"```\n\$ bin/chart studies/(\S+)\.study studies/(\S+)\.chart\n(.*?)```", (ROOT / page).read_text(), re.DOTALL)
+        wanted = [(CHARTED[name], name, charted(name)) for name in names]
+        expect(shown == wanted, f"{page} does not show what bin/chart prints of {names}")
 
 
 def check_night_porter():
@@ -538,6 +598,9 @@ def main():
         attempt(check_variety, name)
     for name in WHY:
         attempt(check_why, name)
+    for name in CHARTED:
+        attempt(check_charted, name)
+    attempt(check_charts)
     attempt(check_folder)
     attempt(check_particulars)
     attempt(check_explanations)

@@ -64,6 +64,14 @@ mod exported {
             report: *mut u8,
             report_len: usize,
         ) -> Answer;
+        pub fn marrowkite_chart(
+            file: *const u8,
+            file_len: usize,
+            actions: *const u8,
+            actions_len: usize,
+            pairs: *const u8,
+            pairs_len: usize,
+        ) -> Answer;
         pub fn marrowkite_write(
             situation: u8,
             variables: *const u8,
@@ -179,6 +187,22 @@ pub fn report(file: &[u8], first: u64, n: u64, report: &mut [u8]) -> Answer {
     }
 }
 
+/// Checks a chart, a list of actions and pairs of two bytes, the first to be done before the second: 1 to 8 and 21, then 10, 11, 12,
+/// 19, 14, 25, 26, 27, 28. Done: at least one order of the list keeps all pairs, and every order that does is a straight plan;
+/// first is how many actions there are, second how many pairs.
+pub fn chart(file: &[u8], actions: &[u8], pairs: &[u8]) -> Answer {
+    unsafe {
+        exported::marrowkite_chart(
+            file.as_ptr(),
+            file.len(),
+            actions.as_ptr(),
+            actions.len(),
+            pairs.as_ptr(),
+            pairs.len(),
+        )
+    }
+}
+
 #[cfg(test)]
 mod tests {
     extern crate std;
@@ -248,6 +272,7 @@ mod tests {
     fn empty_slices() {
         assert_eq!(check(&[]), answer(1, 0, 0));
         assert_eq!(plan(&PORTER, &[], &mut []), answer(9, 0, 1));
+        assert_eq!(chart(&PORTER, &[], &[]), answer(25, 0, 0));
         assert_eq!(draw(7, 0, &mut []), answer(0, 7, 0));
         assert_eq!(write(0, &[], &[], &[], &[], 1, &mut []), answer(3, 0, 0));
     }
@@ -291,6 +316,21 @@ mod tests {
         assert_eq!(report(&PORTER, 1, 65, &mut figures), answer(19, 65, 0));
         assert_eq!(report(&PORTER, 0, 64, &mut figures), answer(18, 0, 0));
         assert_eq!(report(&PORTER, 1, 1, &mut figures[..24]), answer(13, 25, 0));
+    }
+
+    #[test]
+    fn a_chart_is_checked() {
+        let (listed, orders) = ([0, 1, 2, 3], [0, 2, 0, 3, 1, 2, 1, 3, 3, 2]);
+        assert_eq!(chart(&PORTER, &listed, &orders), answer(0, 4, 5));
+        assert_eq!(chart(&PORTER, &listed, &[1, 0, 0, 3, 3, 2]), answer(0, 4, 3));
+        assert_eq!(chart(&PORTER, &listed, &orders[..8]), answer(28, 3, 2));
+        assert_eq!(chart(&PORTER, &listed, &[3, 2, 2, 0, 0, 3]), answer(27, 0, 0));
+        assert_eq!(chart(&PORTER, &listed, &orders[..9]), answer(26, 4, 0));
+        assert_eq!(chart(&PORTER, &listed[1..], &orders), answer(25, 0, 0));
+        assert_eq!(chart(&PORTER, &[5], &orders), answer(14, 0, 0));
+        assert_eq!(chart(&PORTER, &[0; 257], &orders), answer(19, 257, 0));
+        assert_eq!(chart(&PORTER, &listed, &[0; 8193]), answer(19, 4097, 0));
+        assert_eq!(chart(&PORTER[..55], &[], &[]), answer(1, 55, 0));
     }
 
     #[test]

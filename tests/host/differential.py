@@ -3,8 +3,9 @@
     python3 tests/host/differential.py [--seed N] [--calls N] [--any-stack] COMMAND...
 
 COMMAND starts tests/host/serve.c. The calls are those of tests/oracle.py: its worked cases, then calls from a seed, which
-is drawn anew for each run (or given, also by MARROWKITE_SEED) and printed, then a fifth as many writes and a twentieth as many reports. A run goes on until
-each answer that each call can give was met, for at most twice as many calls. Each file that loads is read by the oracle and
+is drawn anew for each run (or given, also by MARROWKITE_SEED) and printed, then a fifth as many writes, a twentieth as many
+reports and an eighth as many charts. A run goes on until each answer that each call can give was met, for at most twice as
+many calls. Each file that loads is read by the oracle and
 written back by the library, which has to give the same bytes. Each call's stack is held to the limit that
 include/marrowkite.h names, unless any stack will do, as for the yardstick.
 The last line is 'N passed, M failed': calls that agree, calls that do not and answers that were never met.
@@ -26,7 +27,7 @@ ROOT = Path(__file__).resolve().parents[2]
 sys.path.insert(0, str(ROOT / "tests"))
 import oracle  # noqa: E402
 
-NAMES = ["record_at", "check", "plan", "plan_seeded", "run", "draw", "write", "report"]  # in the order of serve.c
+NAMES = ["record_at", "check", "plan", "plan_seeded", "run", "draw", "write", "report", "chart"]  # in the order of serve.c
 FILE_FAULTS = set(range(1, 9))
 CAN_ANSWER = {
     "record_at": {0, 1, 2},
@@ -37,6 +38,7 @@ CAN_ANSWER = {
     "draw": {0, 13, 18, 19},
     "write": {0, 3, 4, 5, 6, 7, 13},
     "report": {0, 13, 18, 19} | FILE_FAULTS,
+    "chart": {0, 10, 11, 12, 14, 19, 25, 26, 27, 28} | FILE_FAULTS,
 }
 SHOWN = 5
 
@@ -53,6 +55,8 @@ def parts(name, inputs):
         return (inputs[5], inputs[0]), inputs[1:5], inputs[6]
     if name == "report":
         return inputs[1:3], (inputs[0], b"", b"", b""), inputs[3]
+    if name == "chart":
+        return (0, 0), (*inputs, b""), b""
     *read, buffer = inputs
     return (0, 0), (*read, b"", b"", b"")[:4], buffer
 
@@ -93,13 +97,17 @@ def stack_limits():
 
 
 def all_calls(seed, n, seen):
-    """The worked cases; n calls, a fifth as many writes and a twentieth as many reports; as many more as it takes to meet every answer, but at most as many
-    again. Each with what it has to answer; behind each call on a file that loads, the write of what the file says."""
+    """The worked cases; n calls, a fifth as many writes, a twentieth as many reports and an eighth as many charts; as many more as it
+    takes to meet every answer, but at most as many again. Each with what it has to answer; behind each call on a file that loads,
+    the write of what the file says."""
     worked = [(name, inputs) for _, name, inputs, *_ in oracle.worked_cases()]
     worked += [("write", oracle.inputs_of_worked_write(lists, length)) for lists, length, _ in oracle.worked_writes()]
+    worked += [("chart", oracle.inputs_of_worked_chart(*call)) for *call, _ in oracle.worked_charts()]
     for name, inputs in worked:
         yield name, inputs, oracle.answer(name, inputs)
-    for some, calls, names in (n, oracle.calls, NAMES[:-2]), (n // 5, oracle.writes, ["write"]), (n // 20, oracle.reports, ["report"]):
+    kinds = [(n, oracle.calls, NAMES[:-3]), (n // 5, oracle.writes, ["write"])]
+    kinds += [(n // 20, oracle.reports, ["report"]), (n // 8, oracle.charts, ["chart"])]
+    for some, calls, names in kinds:
         for index, (name, inputs) in enumerate(calls(seed, 2 * some)):
             if index >= some and not unmet(seen, names):
                 break

@@ -1,5 +1,5 @@
 /* Document 01's seventeen worked cases through the exported calls, one line each, and what the cases leave open: calls one
- * after another, calls on several threads, single records, the generator's check number, files from lists.
+ * after another, calls on several threads, single records, the generator's check number, files from lists, charts.
  * Every buffer is lent between guard bytes. Each check below looks at all numbers, all bytes of the buffer, the inputs and
  * the guard bytes; a refused call has to leave the buffer as it was. */
 #include "lend.h"
@@ -139,6 +139,17 @@ static int write_lists(uint8_t situation, bytes variables, bytes actions, bytes 
 #define NIGHT_PORTER(situation, set)                                                                                    \
   BYTES(8, situation, 1, 2, 2, 0, 0, 1, 7, set, 2, 0, 0, 1, 7, 4, 4, 0, 0, 1, 5, 0, 0, 0, 1, 6)
 
+/* The porter's actions, its direct orders, and its plans as chains. */
+#define LISTED BYTES(0, 1, 2, 3)
+#define ORDERS 0, 2, 0, 3, 1, 2, 1, 3, 3, 2
+#define CHAIN(first, second) BYTES(first, second, second, 3, 3, 2)
+#define TOO_LONG(len) ((bytes){(const uint8_t[len]){0}, len})
+
+static int chart(bytes file, bytes actions, bytes pairs, marrowkite_answer wanted) {
+  lent f = lend(file), a = lend(actions), p = lend(pairs);
+  return same(marrowkite_chart(f.at, f.len, a.at, a.len, p.at, p.len), wanted) & kept(f, file) & kept(a, actions) & kept(p, pairs);
+}
+
 static int draw(uint64_t seed, uint64_t count, size_t room, marrowkite_answer wanted, bytes left) {
   lent buffer = lend_room(room);
   return same(marrowkite_draw(seed, count, buffer.at, buffer.len), wanted) & holds_only(buffer, left);
@@ -198,7 +209,7 @@ static int in_a_row(void) {
   return holds;
 }
 
-/* Threads of the smallest stack that the C library allows. */
+/* Threads of the smallest stack that the C library allows, of which it leaves 11,968 bytes; for charts a page more. */
 typedef unsigned long pthread_t;
 typedef union {
   char size[56];
@@ -208,20 +219,34 @@ int pthread_attr_init(pthread_attr_t *attr);
 int pthread_attr_setstacksize(pthread_attr_t *attr, size_t size);
 int pthread_create(pthread_t *thread, const pthread_attr_t *attr, void *(*start)(void *), void *arg);
 int pthread_join(pthread_t thread, void **result);
-enum { THREADS = 8, SMALLEST_STACK = 16384 };
+enum { THREADS = 8, SMALLEST_STACK = 16384, STACK_FOR_CHARTS = 20480 };
+
+static int charts_in_a_row(void) {
+  static const uint8_t listed[] = {0, 1, 2, 3}, orders[] = {ORDERS};
+  const uint8_t *file = porter_of_the_document;
+  size_t len = sizeof porter_of_the_document;
+  marrowkite_answer given = marrowkite_chart(file, len, listed, sizeof listed, orders, sizeof orders);
+  marrowkite_answer lacking = marrowkite_chart(file, len, listed, sizeof listed, orders, 8);
+  return given.number == 0 && given.first == 4 && given.second == 5 && lacking.number == 28 && lacking.first == 3 && lacking.second == 2;
+}
 
 static void *many_in_a_row(void *holds) {
   for (int i = 0; i < 100; i++) *(int *)holds &= in_a_row();
   return 0;
 }
 
-static int on_threads(void) {
+static void *many_charts(void *holds) {
+  for (int i = 0; i < 100; i++) *(int *)holds &= charts_in_a_row();
+  return 0;
+}
+
+static int on_threads(void *(*work)(void *), size_t stack) {
   pthread_attr_t attr;
   pthread_t threads[THREADS];
-  int each[THREADS], holds = pthread_attr_init(&attr) == 0 && pthread_attr_setstacksize(&attr, SMALLEST_STACK) == 0;
+  int each[THREADS], holds = pthread_attr_init(&attr) == 0 && pthread_attr_setstacksize(&attr, stack) == 0;
   for (int i = 0; i < THREADS; i++) {
     each[i] = 1;
-    if (pthread_create(&threads[i], &attr, many_in_a_row, &each[i]) != 0) return 0;
+    if (pthread_create(&threads[i], &attr, work, &each[i]) != 0) return 0;
   }
   for (int i = 0; i < THREADS; i++) holds &= pthread_join(threads[i], 0) == 0 && each[i];
   return holds;
@@ -288,6 +313,19 @@ int main(void) {
                            plan(NIGHT_PORTER(2, 1), BYTES(0, 1), 8, DONE(1, 0), BYTES(1)) &
                            plan(NIGHT_PORTER(3, 1), BYTES(0, 1), 8, REFUSED(10, 0, 1)) &
                            run(NIGHT_PORTER(2, 1), BYTES(0), 8, REFUSED(20, 0, 0)));
+  report("charts", chart(PORTER, LISTED, BYTES(ORDERS), DONE(4, 5)) & chart(PORTER, LISTED, BYTES(ORDERS, 0, 2), DONE(4, 6)) &
+                       chart(PORTER, LISTED, CHAIN(0, 1), DONE(4, 3)) & chart(PORTER, LISTED, CHAIN(1, 0), DONE(4, 3)) &
+                       chart(PORTER_TO(0, 0, 0), NOTHING, NOTHING, DONE(0, 0)) &
+                       chart(PORTER, LISTED, BYTES(0, 3, 1, 3), ANSWER(28, 0, 2)) &
+                       chart(PORTER, LISTED, BYTES(ORDERS, 2, 0), ANSWER(27, 0, 0)) &
+                       chart(PORTER, LISTED, BYTES(ORDERS, 0), ANSWER(26, 5, 0)) &
+                       chart(PORTER, BYTES(0, 1, 2, 3, 4), BYTES(ORDERS), ANSWER(25, 4, 0)) &
+                       chart(PORTER, BYTES(0, 1, 5), BYTES(ORDERS), ANSWER(14, 2, 0)) &
+                       chart(PORTER, TOO_LONG(257), TOO_LONG(8193), ANSWER(19, 257, 0)) &
+                       chart(PORTER, TOO_LONG(256), TOO_LONG(8193), ANSWER(19, 4097, 0)) &
+                       chart(PORTER, TOO_LONG(256), TOO_LONG(8192), ANSWER(25, 0, 0)) &
+                       chart(RING_WANTING(1), BYTES(0, 1), BYTES(0, 1), ANSWER(12, 0, 0)) &
+                       chart(PORTER_WITHOUT_SEED, NOTHING, NOTHING, ANSWER(5, 50, 0)));
   report("single records", record_at(PORTER, 18, (marrowkite_record){0, 3, 19, 2, 21}) &
                                record_at(PORTER, 55, (marrowkite_record){0, 6, 56, 0, 56}) &
                                record_at(PORTER, 0, (marrowkite_record){0, 1, 1, 1, 2}) &
@@ -298,7 +336,8 @@ int main(void) {
                                record_at(NOTHING, 0, (marrowkite_record){1, 0, 0, 0, 0}));
   report("the generator's 10,000th number", generator());
   report("different files in a row", in_a_row());
-  report("many calls on 8 threads of 16 KiB", on_threads());
+  report("many calls on 8 threads of 16 KiB", on_threads(many_in_a_row, SMALLEST_STACK));
+  report("many charts on 8 threads of 20 KiB", on_threads(many_charts, STACK_FOR_CHARTS));
   printf("%d passed, %d failed\n", passed, failed);
   return failed != 0;
 }

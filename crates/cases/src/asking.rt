@@ -4,8 +4,12 @@
 //     record AT           the record at a place, and its body
 //     records             each record, found by the reader behind the one before it, up to the end record or a refusal
 //     number STEPS SEED   the generator's number after so many steps
+//     chart F A           of the file's bytes F are the file, A behind them the listed actions, and the rest the pairs
 use crate::show;
+use crate::words::front;
 use crate::words::number;
+use crate::words::rest;
+use answer::Answer;
 use records::Found;
 
 // The words, as `words::word` reads them.
@@ -17,6 +21,8 @@ const RECORDS: u64 = 0x7265636f726473;
 
 const NUMBER: u64 = 0x6e756d626572;
 
+const CHART: u64 = 0x6368617274;
+
 const END: u8 = 6;
 
 // Makes the call of this word, if it is one of these, and answers whether it is.
@@ -26,9 +32,15 @@ pub(crate) fn ask(word: u64, line: &[u8], file: &[u8]) -> bool {
         RECORD => record(file, number(line, 1) as usize),
         RECORDS => records(file),
         NUMBER => generator(number(line, 1), number(line, 2)),
+        CHART => show::answers(chart(file, number(line, 1) as usize, number(line, 2) as usize)),
         _ => return false,
     }
     true
+}
+
+fn chart(bytes: &[u8], len: usize, listed: usize) -> Answer {
+    let lists = rest(bytes, len);
+    charter::chart(front(bytes, len), front(lists, listed), rest(lists, listed))
 }
 
 fn generator(steps: u64, seed: u64) {

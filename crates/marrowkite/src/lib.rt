@@ -7,6 +7,7 @@ ghost use Rattle.planning.specs.Planning.{PlanAllows};
 ghost use Rattle.planning.specs.Seeded.{SeededAllows};
 ghost use Rattle.spelling.specs.Write.{WriteAllows};
 ghost use Rattle.varied.specs.Report.{ReportAllows};
+ghost use Rattle.charts.specs.Answers.{ChartAllows};
 ghost use Rattle.marrowkite.specs.Told.{RecordAllows};
 use answer::Answer;
 use records::Found;
@@ -109,4 +110,11 @@ pub extern "C" fn marrowkite_report(file: &[u8], first: u64, n: u64, report: &mu
     ensures { λ r. ⌜ ReportAllows (now (file .entry)) first n (now (report .entry)) r (now (report .exit)) ⌝ }
 {
     reporter::report(file, first, n, report)
+}
+
+#[no_mangle]
+pub extern "C" fn marrowkite_chart(file: &[u8], actions: &[u8], pairs: &[u8]) -> Answer
+    ensures { λ r. ⌜ ChartAllows (now (file .entry)) (now (actions .entry)) (now (pairs .entry)) r ⌝ }
+{
+    charter::chart(file, actions, pairs)
 }

@@ -1,4 +1,5 @@
 pub mod Lists
+pub mod Counts
 pub mod Images
 pub mod Members
 pub mod Grown
@@ -8,3 +9,5 @@ pub mod Rings
 pub mod Stuck
 pub mod Reached
 pub mod Standing
+pub mod Chains
+pub mod Extended

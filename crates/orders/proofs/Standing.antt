@@ -1,15 +1,11 @@
 -- What an order is, said by places: each member once and nothing else, and what comes before another stands before it.
 -- Assumes nothing.
-use mathlib.Core.Path.{_≡_, refl}
+use mathlib.Core.Path.{refl}
 use mathlib.Core.Logic.{_⊎_, inl, inr}
 use mathlib.Core.List.{List, [], _∷_}
 use Prim.Native.Nat.{ℕ}
-use Rattle.orders.specs.Orders.{In, Distinct, None, Plus, Ready, OrderFrom, Order}
+use Rattle.orders.specs.Orders.{In, Distinct, StandsBefore, None, Plus, Ready, OrderFrom, Order}
 use Rattle.orders.proofs.Members.{TakenBy, first-parted, order-distinct, order-members, order-has-all}
-
-abbrev pub StandsBefore : ℕ → ℕ → List ℕ → Type 0
-StandsBefore a b [] = ⊥
-StandsBefore a b (x ∷ rest) = ((a ≡ x) × In b rest) ⊎ StandsBefore a b rest
 
 pub stands-before-in : (a b : ℕ) (xs : List ℕ) → StandsBefore a b xs → In b xs
 stands-before-in a b [] s = absurd s

@@ -14,6 +14,11 @@ abbrev pub Distinct : List ℕ → Type 0
 Distinct [] = Unit {0}
 Distinct (x ∷ rest) = (In x rest → ⊥) × Distinct rest
 
+-- a has a place before a place of b
+abbrev pub StandsBefore : ℕ → ℕ → List ℕ → Type 0
+StandsBefore a b [] = ⊥
+StandsBefore a b (x ∷ rest) = ((a ≡ x) × In b rest) ⊎ StandsBefore a b rest
+
 -- none taken yet; and one more taken
 abbrev pub None : ℕ → Type 0
 None y = ⊥

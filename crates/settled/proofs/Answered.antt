@@ -19,6 +19,8 @@ use Rattle.spelling.specs.Write.{WriteAllows}
 use Rattle.spelling.proofs.Settled.{write-answers}
 use Rattle.varied.specs.Report.{ReportAllows}
 use Rattle.varied.proofs.Settled.{report-answers}
+use Rattle.charts.specs.Answers.{ChartAllows}
+use Rattle.charts.proofs.Settled.{chart-answered as charts-answer}
 use Rattle.marrowkite.specs.Told.{told, RecordAllows}
 
 -- what is given by equations is allowed
@@ -53,3 +55,6 @@ write-answered = write-answers
 
 pub report-answered : (file : List ℕ) (first n : ℕ) (before : List ℕ) → Answers (ReportAllows file first n before)
 report-answered = report-answers
+
+pub chart-answered : (file actions pairs : List ℕ) → AnswersOne (ChartAllows file actions pairs)
+chart-answered = charts-answer

@@ -17,6 +17,8 @@ use Rattle.spelling.specs.Write.{WriteAllows}
 use Rattle.spelling.proofs.Settled.{write-settles}
 use Rattle.varied.specs.Report.{ReportAllows}
 use Rattle.varied.proofs.Settled.{report-settles}
+use Rattle.charts.specs.Answers.{ChartAllows}
+use Rattle.charts.proofs.Settled.{chart-settled as charts-settle}
 use Rattle.marrowkite.specs.Told.{RecordAllows}
 
 -- what is given by equations is settled
@@ -49,3 +51,6 @@ write-settled = write-settles
 
 pub report-settled : (file : List ℕ) (first n : ℕ) (before : List ℕ) → Settles (ReportAllows file first n before)
 report-settled = report-settles
+
+pub chart-settled : (file actions pairs : List ℕ) → SettlesOne (ChartAllows file actions pairs)
+chart-settled = charts-settle

@@ -1,0 +1,9 @@
+pub mod Pairs
+pub mod Keeping
+pub mod Accepted
+pub mod Tells
+pub mod Lowest
+pub mod Stages
+pub mod Decided
+pub mod Settled
+pub mod Files

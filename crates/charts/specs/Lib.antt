@@ -1,0 +1,3 @@
+pub mod Charts
+pub mod Faults
+pub mod Answers

@@ -1,0 +1,4 @@
+pub mod Weighing
+pub mod Wanted
+pub mod Directs
+pub mod AllActions

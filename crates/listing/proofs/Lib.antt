@@ -1,0 +1,6 @@
+pub mod Usables
+pub mod Gathering
+pub mod Unlike
+pub mod Amiss
+pub mod Pairs
+pub mod Linking

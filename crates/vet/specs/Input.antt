@@ -1,0 +1,28 @@
+-- What the program's input stands for: a chart's actions, its pairs, and a study file.
+-- Assumes nothing.
+use Prim.Native.Nat.{ℕ, suc, _+_, _*_, _-_}
+use mathlib.Core.List.{List}
+use lib.ListN.{getD, take, drop}
+use Rattle.lawful.specs.Lengths.{longestFile}
+
+-- a head of 4 bytes, two lists of 65,535 at most, and one byte more than the longest file has
+abbrev pub inputLength : ℕ
+inputLength = 4 + 2 * 65535 + suc longestFile
+
+-- two bytes, most significant first
+abbrev pub numberAt : List ℕ → ℕ → ℕ
+numberAt input at = 256 * getD input at 0 + getD input (at + 1) 0
+
+-- what came behind the head, of n bytes that came
+abbrev pub behindHead : ℕ → List ℕ → List ℕ
+behindHead n input = take (n - 4) (drop 4 input)
+
+-- of it as many bytes as are announced, or as came; the next; and the rest
+abbrev pub actionsIn : ℕ → List ℕ → List ℕ
+actionsIn n input = take (numberAt input 0) (behindHead n input)
+
+abbrev pub pairsIn : ℕ → List ℕ → List ℕ
+pairsIn n input = take (numberAt input 2) (drop (numberAt input 0) (behindHead n input))
+
+abbrev pub fileIn : ℕ → List ℕ → List ℕ
+fileIn n input = drop (numberAt input 0 + numberAt input 2) (behindHead n input)
