@@ -1,5 +1,6 @@
 """The files that the calls are measured on: the porter file, files of 10 to 256 actions made from a fixed seed, two of them
-with a set of situations for each action, and the longest file. Each has a straight plan. And a chart for each of them."""
+with a set of situations for each action, one of them with eight crews, and the longest file with one crew and with eight. Each has
+a straight plan for crew 0. And a chart for each of them."""
 
 import random
 import sys
@@ -12,6 +13,7 @@ import study  # noqa: E402
 
 SIZES = [10, 20, 30, 60, 128, 256]
 WITH_SETS = [30, 256]
+WITH_CREWS = [30]
 
 
 def walk_lengths(rng, actions, variables):
@@ -55,7 +57,8 @@ def made(actions, seed):
         out.append(study.Action(v, pre, post, conditions(rng, state, v)))
     rng.shuffle(out)
     starts = [values[v][0] for v in range(variables)]
-    return study.written(study.Study(counts, out, starts, state, rng.randrange(1, study.LARGEST_SEED + 1)))
+    crew = study.Crew(starts, state, rng.randrange(1, study.LARGEST_SEED + 1))
+    return study.written(study.Study(counts, out, [crew]))
 
 
 def with_sets(data, situation=2):
@@ -68,6 +71,14 @@ def with_sets(data, situation=2):
     return study.written(said)
 
 
+def with_crews(data, many):
+    """The same study with so many crews: the first as it is, the others at rest."""
+    said = study.read(data)
+    first = said.crews[0]
+    said.crews = [first] + [study.Crew(first.starts, first.starts, number) for number in range(1, many)]
+    return study.written(said)
+
+
 def files():
     """Name and bytes of each."""
     yield "porter", study.PORTER
@@ -75,13 +86,17 @@ def files():
         yield f"{actions} actions", made(actions, actions)
     for actions in WITH_SETS:
         yield f"{actions} with sets", with_sets(made(actions, actions))
-    yield "longest", (ROOT / "studies" / "longest.bin").read_bytes()
+    for actions in WITH_CREWS:
+        yield f"{actions}, 8 crews", with_crews(made(actions, actions), study.MOST_CREWS)
+    longest = (ROOT / "studies" / "longest.bin").read_bytes()
+    yield "longest, 1 crew", with_crews(longest, 1)
+    yield "longest", with_crews(longest, study.MOST_CREWS)
 
 
 def chart(data, plan):
     """The actions and the pairs of a file's own chart: all direct orders. Where these are too many, the plan as a chain, and of the
     direct orders as many as make up the most pairs that a chart may have."""
-    said = oracle.read(data)
+    said = oracle.heard(data, 0)
     orders = sorted(oracle.comes_before(said, [oracle.walk_of(said, v) for v in range(len(said.counts))]))
     if len(orders) > oracle.MOST_PAIRS:
         rng = random.Random(len(orders))

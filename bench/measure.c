@@ -4,7 +4,7 @@
 #include "calls.h"
 
 int main(int count, char **words) {
-  if (count < 11) return 2;
+  if (count < 13) return 2;
   size_t often = (size_t)strtol(words[2], 0, 10);
   make_calls(words[1][0] == 'l' ? &library : &plain, read_given(words + 3), often);
   return 0;

@@ -7,8 +7,8 @@ void *memcpy(void *to, const void *from, size_t len);
 void *memset(void *to, int byte, size_t len);
 int memcmp(const void *one, const void *other, size_t len);
 
-enum { VARIABLE = 1, ACTION, CONDITION, TASK, SEED, END, SITUATIONS, SITUATION };
-enum { MOST_VARIABLES = 32, MOST_ACTIONS = 256, LARGEST_SEED = 2147483646, ALWAYS = 255, CAME_ROUND = 255 };
+enum { VARIABLE = 1, ACTION, CONDITION, TASK, SEED, END, SITUATIONS, SITUATION, CREW };
+enum { MOST_VARIABLES = 32, MOST_ACTIONS = 256, MOST_CREWS = 8, LARGEST_SEED = 2147483646, ALWAYS = 255, CAME_ROUND = 255 };
 
 typedef marrowkite_answer answer;
 
@@ -18,9 +18,9 @@ static answer refused(uint64_t number, uint64_t first) { return three(number, fi
 /* The lowest variable whose bit is not set, or 32 and more. */
 static unsigned lowest_unused(uint32_t used) { return (unsigned)__builtin_ctzll(~(uint64_t)used); }
 
-/* What a file says. `set` and `setter` tell for each variable which values some action in force sets, and which action. */
+/* What a file says to a crew. `set` and `setter` tell for each variable which values some action in force sets, and which action. */
 typedef struct {
-  unsigned variables, actions;
+  unsigned variables, actions, crews;
   uint32_t seed;
   uint8_t counts[MOST_VARIABLES], starts[MOST_VARIABLES], goals[MOST_VARIABLES];
   uint8_t variable[MOST_ACTIONS], pre[MOST_ACTIONS], post[MOST_ACTIONS], in_force[MOST_ACTIONS];
@@ -32,14 +32,14 @@ typedef struct {
 /* No record, or one that may not stand here. */
 static answer misplaced(const uint8_t *f, size_t len, size_t at) {
   if (at >= len) return refused(1, len);
-  return refused((unsigned)(f[at] - 1) < 8 ? 3 : 2, at);
+  return refused((unsigned)(f[at] - 1) < 9 ? 3 : 2, at);
 }
 
-/* One function, since cut up into the sections it executed 3 % more. */
-static answer load(const uint8_t *f, size_t len, study *s) {
+/* One function, since cut up into the sections it executed 3 % more. Of a crew that is not there nothing is kept. */
+static answer load_any(const uint8_t *f, size_t len, uint64_t crew, study *s) {
   size_t at = 0, repeat = 0;
   uint32_t used = 0;
-  unsigned n = 0, a = 0, situation = 0;
+  unsigned n = 0, a = 0, c = 0, situation = 0;
   if (len > 0 && f[0] == SITUATION) {
     if (len < 2) return refused(1, 0);
     situation = f[1];
@@ -90,27 +90,38 @@ static answer load(const uint8_t *f, size_t len, study *s) {
     s->set[v] |= (uint16_t)(1u << q);
     s->setter[16 * v + q] = (uint8_t)a;
   }
-  for (unsigned v = 0; v < n; v++, at += 4) {
-    if (at >= len || f[at] != TASK) return misplaced(f, len, at);
-    if (len - at < 4) return refused(1, at);
-    unsigned p = f[at + 2], q = f[at + 3];
-    if (f[at + 1] != v || p >= s->counts[v] || q >= s->counts[v]) return refused(5, at);
-    s->starts[v] = (uint8_t)p;
-    s->goals[v] = (uint8_t)q;
+  for (;; at++) {
+    for (unsigned v = 0; v < n; v++, at += 4) {
+      if (at >= len || f[at] != TASK) return misplaced(f, len, at);
+      if (len - at < 4) return refused(1, at);
+      unsigned p = f[at + 2], q = f[at + 3];
+      if (f[at + 1] != v || p >= s->counts[v] || q >= s->counts[v]) return refused(5, at);
+      if (c != crew) continue;
+      s->starts[v] = (uint8_t)p;
+      s->goals[v] = (uint8_t)q;
+    }
+    if (at >= len || f[at] != SEED) return misplaced(f, len, at);
+    if (len - at < 5) return refused(1, at);
+    uint32_t seed = (uint32_t)f[at + 1] << 24 | (uint32_t)f[at + 2] << 16 | (uint32_t)f[at + 3] << 8 | f[at + 4];
+    if (seed - 1 >= LARGEST_SEED) return refused(5, at);
+    if (c++ == crew) s->seed = seed;
+    at += 5;
+    if (at >= len || f[at] != CREW) break;
+    if (c == MOST_CREWS) return refused(4, at);
   }
-  if (at >= len || f[at] != SEED) return misplaced(f, len, at);
-  if (len - at < 5) return refused(1, at);
-  uint32_t seed = (uint32_t)f[at + 1] << 24 | (uint32_t)f[at + 2] << 16 | (uint32_t)f[at + 3] << 8 | f[at + 4];
-  if (seed - 1 >= LARGEST_SEED) return refused(5, at);
-  at += 5;
   if (at >= len || f[at] != END) return misplaced(f, len, at);
   if (repeat != 0) return refused(7, repeat);
   if (lowest_unused(used) < n) return refused(21, lowest_unused(used));
   if (++at < len) return refused(8, at);
   s->variables = n;
   s->actions = a;
-  s->seed = seed;
+  s->crews = c;
   return three(0, a, n);
+}
+
+static answer load(const uint8_t *f, size_t len, uint64_t crew, study *s) {
+  answer loaded = load_any(f, len, crew, s);
+  return loaded.number == 0 && crew >= s->crews ? refused(22, crew) : loaded;
 }
 
 /* Planning more than 64 actions. `ready` has a bit for each rank whose action may be taken now. */
@@ -363,13 +374,13 @@ static uint32_t draw(uint32_t last, unsigned count, uint8_t *ranks) {
 
 answer plain_check(const uint8_t *file, size_t file_len) {
   study s;
-  return load(file, file_len, &s);
+  return load_any(file, file_len, 0, &s);
 }
 
-answer plain_plan(const uint8_t *file, size_t file_len, const uint8_t *ranks, size_t ranks_len, uint8_t *plan,
+answer plain_plan(const uint8_t *file, size_t file_len, uint64_t crew, const uint8_t *ranks, size_t ranks_len, uint8_t *plan,
                   size_t plan_len) {
   study s;
-  answer loaded = load(file, file_len, &s);
+  answer loaded = load(file, file_len, crew, &s);
   if (loaded.number != 0) return loaded;
   if (ranks_len != s.actions) return three(9, ranks_len, 1);
   unsigned k = first_unranked(ranks, s.actions);
@@ -377,20 +388,20 @@ answer plain_plan(const uint8_t *file, size_t file_len, const uint8_t *ranks, si
   return plan_loaded(file, ranks, &s, plan, plan_len);
 }
 
-answer plain_plan_seeded(const uint8_t *file, size_t file_len, uint8_t *plan, size_t plan_len) {
+answer plain_plan_seeded(const uint8_t *file, size_t file_len, uint64_t crew, uint8_t *plan, size_t plan_len) {
   study s;
   uint8_t ranks[MOST_ACTIONS];
-  answer loaded = load(file, file_len, &s);
+  answer loaded = load(file, file_len, crew, &s);
   if (loaded.number != 0) return loaded;
   draw(s.seed, s.actions, ranks);
   return plan_loaded(file, ranks, &s, plan, plan_len);
 }
 
-answer plain_run(const uint8_t *file, size_t file_len, const uint8_t *plan, size_t plan_len, uint8_t *state,
+answer plain_run(const uint8_t *file, size_t file_len, uint64_t crew, const uint8_t *plan, size_t plan_len, uint8_t *state,
                  size_t state_len) {
   study s;
   uint16_t held[MOST_VARIABLES];
-  answer loaded = load(file, file_len, &s);
+  answer loaded = load(file, file_len, crew, &s);
   if (loaded.number != 0) return loaded;
   if (state_len < s.variables) return refused(13, s.variables);
   for (unsigned v = 0; v < s.variables; v++) held[v] = (uint16_t)(1u << s.starts[v]);
@@ -420,10 +431,10 @@ answer plain_draw(uint64_t seed, uint64_t count, uint8_t *ranks, size_t ranks_le
 }
 
 marrowkite_record plain_record_at(const uint8_t *file, size_t file_len, uint64_t at) {
-  static const uint8_t lengths[] = {1, 3, 2, 3, 4, 0, 1, 1};
+  static const uint8_t lengths[] = {1, 3, 2, 3, 4, 0, 1, 1, 0};
   if (at >= file_len) return (marrowkite_record){1, 0, file_len, 0, file_len};
   unsigned kind = file[at];
-  if (kind - 1 > 7) return (marrowkite_record){2, 0, at, 0, at};
+  if (kind - 1 > 8) return (marrowkite_record){2, 0, at, 0, at};
   unsigned len = lengths[kind - 1];
   if (file_len - at - 1 < len) return (marrowkite_record){1, 0, at, 0, at};
   return (marrowkite_record){0, kind, at + 1, len, at + 1 + len};
@@ -590,11 +601,11 @@ static answer vet_many(charted c, const study *s, const uint8_t *plan, size_t st
 }
 
 /* Which plan there is does not matter, so that none is drawn. */
-answer plain_chart(const uint8_t *file, size_t file_len, const uint8_t *actions, size_t actions_len, const uint8_t *pairs,
-                   size_t pairs_len) {
+answer plain_chart(const uint8_t *file, size_t file_len, uint64_t crew, const uint8_t *actions, size_t actions_len,
+                   const uint8_t *pairs, size_t pairs_len) {
   study s;
   uint8_t plan[MOST_ACTIONS], ranks[MOST_ACTIONS], starts[MOST_VARIABLES];
-  answer loaded = load(file, file_len, &s);
+  answer loaded = load(file, file_len, crew, &s);
   if (loaded.number != 0) return loaded;
   for (unsigned i = 0; i < s.actions; i++) ranks[i] = (uint8_t)i;
   memcpy(starts, s.starts, s.variables);
@@ -611,11 +622,16 @@ answer plain_chart(const uint8_t *file, size_t file_len, const uint8_t *actions,
 
 /* The lists that a file is written from. */
 typedef struct {
-  const uint8_t *counts, *actions, *conditions, *tasks;
-  size_t variables, actions_len, conditions_len, tasks_len;
-  uint32_t seed;
+  const uint8_t *counts, *actions, *conditions, *crews, *tasks;
+  size_t variables, actions_len, conditions_len, crews_len, tasks_len;
   uint8_t situation;
 } lists;
+
+/* Bytes as a number, the first the least significant, as x86-64 has them. */
+PART uint32_t two_at(const uint8_t *from) { uint16_t word; memcpy(&word, from, 2); return word; }
+PART uint32_t four_at(const uint8_t *from) { uint32_t word; memcpy(&word, from, 4); return word; }
+PART void put_four(uint8_t *to, uint32_t word) { memcpy(to, &word, 4); }
+PART void put_eight(uint8_t *to, uint64_t word) { memcpy(to, &word, 8); }
 
 /* What the reader says of the file that the lists stand for: 0 and its length, or the refusal. Where a record stands follows
  * from how many of each kind come before it. */
@@ -659,24 +675,25 @@ PART answer judge(const lists *l) {
   }
   size_t at = front + 4 * a + 3 * used / 2;
   if (i < l->actions_len || used < l->conditions_len) return refused(a == MOST_ACTIONS ? 4 : 5, at);
-  for (i = 0; l->tasks_len - i >= 3; i += 3, at += 4, t++) {
-    if (t == n) return refused(3, at);
-    const uint8_t *entry = l->tasks + i;
-    if (entry[0] != t || entry[1] >= counts[t] || entry[2] >= counts[t]) return refused(5, at);
+  if (l->crews_len == 0 && l->tasks_len == 0) return refused(3, at);
+  for (i = 0; i < l->crews_len || t < l->tasks_len; i += 5, at += 5) {
+    const uint8_t *entry = l->crews + i;
+    int whole = i < l->crews_len && l->crews_len - i >= 5;
+    if (i == 5 * MOST_CREWS) return refused(4, at);
+    if (i != 0) at++;
+    size_t many = whole ? entry[0] : (l->tasks_len - t + 2) / 3, v = 0;
+    for (; v < many; v++, t += 3, at += 4) {
+      if (v == n) return refused(3, at);
+      const uint8_t *task = l->tasks + t;
+      if (l->tasks_len - t < 3 || task[0] != v || task[1] >= counts[v] || task[2] >= counts[v]) return refused(5, at);
+    }
+    if (v < n) return refused(3, at);
+    if (!whole || __builtin_bswap32(four_at(entry + 1)) - 1 >= LARGEST_SEED) return refused(5, at);
   }
-  if (i < l->tasks_len) return refused(t == n ? 3 : 5, at);
-  if (t < n) return refused(3, at);
-  if (l->seed - 1 >= LARGEST_SEED) return refused(5, at);
   if (repeat != 0) return refused(7, repeat);
   if (lowest_unused(named) < n) return refused(21, lowest_unused(named));
-  return three(0, at + 6, 0);
+  return three(0, at + 1, 0);
 }
-
-/* Bytes as a number, the first the least significant, as x86-64 has them. */
-PART uint32_t two_at(const uint8_t *from) { uint16_t word; memcpy(&word, from, 2); return word; }
-PART uint32_t four_at(const uint8_t *from) { uint32_t word; memcpy(&word, from, 4); return word; }
-PART void put_four(uint8_t *to, uint32_t word) { memcpy(to, &word, 4); }
-PART void put_eight(uint8_t *to, uint64_t word) { memcpy(to, &word, 8); }
 
 /* Writes what was judged good. A store may pass the end of its record, never that of the file, since a task, the seed and the
  * end follow: the bytes too many are written over by the records behind. */
@@ -695,17 +712,22 @@ PART void spell(const lists *l, uint8_t *to) {
     for (; c < end; c += 2, to += 3) put_four(to, two_at(c) << 8 | CONDITION);
     if (l->actions[i + 3] != ALWAYS) *to++ = SITUATIONS, *to++ = l->actions[i + 3];
   }
-  for (size_t i = 0; i < l->tasks_len; i += 3, to += 4)
-    to[0] = TASK, to[1] = l->tasks[i], to[2] = l->tasks[i + 1], to[3] = l->tasks[i + 2];
-  to[0] = SEED;
-  put_four(to + 1, __builtin_bswap32(l->seed));
-  to[5] = END;
+  const uint8_t *t = l->tasks;
+  for (size_t i = 0; i < l->crews_len; i += 5, to += 6) {
+    for (const uint8_t *end = t + 3 * (size_t)l->crews[i]; t < end; t += 3, to += 4)
+      to[0] = TASK, to[1] = t[0], to[2] = t[1], to[3] = t[2];
+    to[0] = SEED;
+    put_four(to + 1, four_at(l->crews + i + 1));
+    to[5] = CREW;
+  }
+  to[-1] = END;
 }
 
 answer plain_write(uint8_t situation, const uint8_t *variables, size_t variables_len, const uint8_t *actions,
-                   size_t actions_len, const uint8_t *conditions, size_t conditions_len, const uint8_t *tasks,
-                   size_t tasks_len, uint32_t seed, uint8_t *file, size_t file_len) {
-  lists l = {variables, actions, conditions, tasks, variables_len, actions_len, conditions_len, tasks_len, seed, situation};
+                   size_t actions_len, const uint8_t *conditions, size_t conditions_len, const uint8_t *crews,
+                   size_t crews_len, const uint8_t *tasks, size_t tasks_len, uint8_t *file, size_t file_len) {
+  lists l = {variables,     actions,     conditions,     crews,     tasks,
+             variables_len, actions_len, conditions_len, crews_len, tasks_len, situation};
   answer judged = judge(&l);
   if (judged.number != 0) return judged;
   if (file_len < judged.first) return refused(13, judged.first);
@@ -714,10 +736,11 @@ answer plain_write(uint8_t situation, const uint8_t *variables, size_t variables
 }
 
 /* The plans are kept one after another. Each seed draws and takes anew: the file is read once. */
-answer plain_report(const uint8_t *file, size_t file_len, uint64_t first, uint64_t n, uint8_t *report, size_t report_len) {
+answer plain_report(const uint8_t *file, size_t file_len, uint64_t crew, uint64_t first, uint64_t n, uint8_t *report,
+                    size_t report_len) {
   study s, each;
   uint8_t ranks[MOST_ACTIONS], plans[64][MOST_ACTIONS];
-  answer loaded = load(file, file_len, &s);
+  answer loaded = load(file, file_len, crew, &s);
   if (loaded.number != 0) return loaded;
   if (n - 1 >= 64) return refused(19, n);
   if (first - 1 >= LARGEST_SEED) return refused(18, first);

@@ -22,7 +22,7 @@ static size_t calls_a_round(given g) {
 }
 
 int main(int count, char **words) {
-  if (count < 10) return 2;
+  if (count < 12) return 2;
   size_t rounds = (size_t)strtol(words[1], 0, 10);
   given g = read_given(words + 2);
   const calls *sides[] = {&library, &plain};

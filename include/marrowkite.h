@@ -15,7 +15,7 @@
  *    1  it ends inside a record or before the end record          first: offset of that record, or the file length
  *    2  a record of unknown kind                                  first: offset of the record; so for 3 to 6
  *    3  a record of a known kind that may not stand here
- *    4  a 33rd variable, a 257th action
+ *    4  a 33rd variable, a 257th action, a ninth crew
  *    5  a value count that is not 2 to 16; no such variable; a value too large; a task that is not the next
  *       variable's; a seed that is not 1 to 2,147,483,646; a situation above 7
  *    6  an action whose pre equals its post; a condition on the action's own variable; a condition whose variable
@@ -25,6 +25,10 @@
  *   21  no action changes the variable and no condition names it,
  *       in force or not                                           first: the lowest such variable; told after 7
  *    8  a byte follows the end record                             first: its offset
+ *
+ *       the crew
+ *   22  the file has no such crew; told right after the file's
+ *       own                                                       first: the crew's number
  *
  *       the rank list
  *    9  it is not as long as the file has actions                 first: its length; second: 1
@@ -70,6 +74,13 @@
  *                                                                 first and then second
  *
  *
+ * CREWS
+ *
+ * A file has one to eight crews, numbered from 0, each with its tasks and its seed. A call that names a crew answers as for a
+ * file in which that crew is the only one: what the others' records say moves nothing, but a fault in any of them is the
+ * file's. Any number may be passed as a crew.
+ *
+ *
  * MEMORY
  *
  * A slice is a pointer and then a length in bytes. All memory is the caller's, and is lent for the time of the call
@@ -95,7 +106,7 @@
  *   marrowkite_run            3,200
  *   marrowkite_draw             128
  *   marrowkite_record_at        128
- *   marrowkite_write            640
+ *   marrowkite_write            768
  *   marrowkite_report        10,240
  *   marrowkite_chart         13,312
  */
@@ -122,26 +133,26 @@ typedef struct { uint64_t number, kind, start, len, next; } marrowkite_record;
 marrowkite_answer marrowkite_check(const uint8_t *file, size_t file_len);
 
 /*
- * Plans with a rank list, one entry for each action: of all straight plans the one whose list of ranks is smallest at
- * the first place where they differ. 1 to 8 and 21, then 9 (the length first), 10, 11, 12, 13.
+ * Plans for a crew with a rank list, one entry for each action: of all straight plans the one whose list of ranks is smallest
+ * at the first place where they differ. 1 to 8 and 21, then 22, then 9 (the length first), 10, 11, 12, 13.
  * Done: first is the plan's length; the plan, one byte for each action, fills the first bytes of `plan`. 256 bytes are
  * always enough.
  */
-marrowkite_answer marrowkite_plan(const uint8_t *file, size_t file_len, const uint8_t *ranks, size_t ranks_len,
+marrowkite_answer marrowkite_plan(const uint8_t *file, size_t file_len, uint64_t crew, const uint8_t *ranks, size_t ranks_len,
                                   uint8_t *plan, size_t plan_len);
 
 /*
- * Plans with the rank list that the file's own seed draws: as marrowkite_plan, without 9.
+ * Plans for a crew with the rank list that its own seed draws: as marrowkite_plan, without 9.
  */
-marrowkite_answer marrowkite_plan_seeded(const uint8_t *file, size_t file_len, uint8_t *plan, size_t plan_len);
+marrowkite_answer marrowkite_plan_seeded(const uint8_t *file, size_t file_len, uint64_t crew, uint8_t *plan, size_t plan_len);
 
 /*
- * Runs a plan from the file's start: 1 to 8 and 21, then 13, then step by step 14, 20, 15, 16, then 17. 0 exactly if the
- * list is a straight plan.
+ * Runs a plan from a crew's start: 1 to 8 and 21, then 22, then 13, then step by step 14, 20, 15, 16, then 17. 0 exactly if the
+ * list is a straight plan of that crew.
  * Done: first is how many variables the file has; their values in the end, which are the goal's, fill the first bytes
  * of `state`. 32 bytes are always enough.
  */
-marrowkite_answer marrowkite_run(const uint8_t *file, size_t file_len, const uint8_t *plan, size_t plan_len,
+marrowkite_answer marrowkite_run(const uint8_t *file, size_t file_len, uint64_t crew, const uint8_t *plan, size_t plan_len,
                                  uint8_t *state, size_t state_len);
 
 /*
@@ -154,19 +165,20 @@ marrowkite_answer marrowkite_draw(uint64_t seed, uint64_t count, uint8_t *ranks,
 /*
  * The record at a place of any bytes, by its kind alone: whether it may stand there and what its body says is not
  * looked at.
- * Number 0: kind 1 to 8; the body is the `len` bytes of `file` from `start` on (0 to 4), and `next` is the place after.
+ * Number 0: kind 1 to 9; the body is the `len` bytes of `file` from `start` on (0 to 4), and `next` is the place after.
  * Number 2 (unknown kind) or 1 (the file ends inside the record, or at or before `at`): kind and len are 0, start and
  * next are `at`, or the file length if `at` is at or past the end.
  */
 marrowkite_record marrowkite_record_at(const uint8_t *file, size_t file_len, uint64_t at);
 
 /*
- * Writes the file that a situation, lists and a seed stand for. The lists' entries, in bytes:
+ * Writes the file that a situation and lists stand for. The lists' entries, in bytes:
  *
  *   variables    1   how many values it has
  *   actions      5   variable, pre, post, set of situations, how many conditions
  *   conditions   2   variable, value: the actions take them in turn, each as many as it says
- *   tasks        3   variable, start, goal
+ *   crews        5   how many tasks, then the seed, four bytes, most significant first
+ *   tasks        3   variable, start, goal: the crews take them in turn, each as many as it says
  *
  * A situation of 0 and a set of 255, all eight situations, mean that no such record is written.
  *
@@ -174,18 +186,20 @@ marrowkite_record marrowkite_record_at(const uint8_t *file, size_t file_len, uin
  * - An entry that is cut short has 255 for each of its numbers. Such an action takes all conditions that are left.
  * - A condition that an action says and that is not lent is 255, 255.
  * - Conditions that no action takes are those of one more action, 255, 255, 255.
+ * - Tasks and crews likewise: a crew that is cut short takes all tasks that are left, a task that a crew says and that is not
+ *   lent is 255, 255, 255, tasks that no crew takes are those of one more crew, and the seed of such crews is 0xffffffff.
  *
  * 3 to 7 and 21 as marrowkite_check answers for the file's bytes (first: the offset in them, or the variable); then 13.
- * Done: first is the file's length; the file fills the first bytes of `file`. 25,544 bytes are always enough.
+ * Done: first is the file's length; the file fills the first bytes of `file`. 26,482 bytes are always enough.
  */
 marrowkite_answer marrowkite_write(uint8_t situation, const uint8_t *variables, size_t variables_len,
                                    const uint8_t *actions, size_t actions_len, const uint8_t *conditions,
-                                   size_t conditions_len, const uint8_t *tasks, size_t tasks_len, uint32_t seed,
-                                   uint8_t *file, size_t file_len);
+                                   size_t conditions_len, const uint8_t *crews, size_t crews_len, const uint8_t *tasks,
+                                   size_t tasks_len, uint8_t *file, size_t file_len);
 
 /*
- * Reports how varied the plans of `n` seeds in a row from `first` on are, the file planned with each: 1 to 8 and 21, then 19,
- * 18 (the first seed out of range), 13.
+ * Reports how varied a crew's plans of `n` seeds in a row from `first` on are, the file planned with each: 1 to 8 and 21, then
+ * 22, 19, 18 (the first seed out of range), 13.
  * Done: first is the report's length; the report, one byte for each figure, fills the first bytes of `report`:
  *
  *   1    how many plans
@@ -193,20 +207,20 @@ marrowkite_answer marrowkite_write(uint8_t situation, const uint8_t *variables, 
  *   1    how many different plans
  *   A    for each position of a plan: how often each of the file's A actions, in file order, stood there
  *
- * All seeds of a file give a plan, and the plans are equally long; or all are refused alike, and the report has 5 bytes.
+ * All seeds of a crew give a plan, and the plans are equally long; or all are refused alike, and the report has 5 bytes.
  * 65,541 bytes are always enough.
  */
-marrowkite_answer marrowkite_report(const uint8_t *file, size_t file_len, uint64_t first, uint64_t n, uint8_t *report,
-                                    size_t report_len);
+marrowkite_answer marrowkite_report(const uint8_t *file, size_t file_len, uint64_t crew, uint64_t first, uint64_t n,
+                                    uint8_t *report, size_t report_len);
 
 /*
- * Checks a chart: a list of actions, one byte each, and pairs, two bytes each, the first to be done before the second. A lone last
- * byte pairs its action with itself, and counts. 1 to 8 and 21, then 10, 11, 12, 19, 14, 25, 26, 27, 28.
+ * Checks a crew's chart: a list of actions, one byte each, and pairs, two bytes each, the first to be done before the second. A
+ * lone last byte pairs its action with itself, and counts. 1 to 8 and 21, then 22, 10, 11, 12, 19, 14, 25, 26, 27, 28.
  * Done: at least one order of the list keeps all pairs, and every order that does is a straight plan. first is how many actions
  * are listed, second how many pairs were lent. With 10 to 12, 14 and 25 to 28 that is not so. Nothing is written.
  */
-marrowkite_answer marrowkite_chart(const uint8_t *file, size_t file_len, const uint8_t *actions, size_t actions_len,
-                                   const uint8_t *pairs, size_t pairs_len);
+marrowkite_answer marrowkite_chart(const uint8_t *file, size_t file_len, uint64_t crew, const uint8_t *actions,
+                                   size_t actions_len, const uint8_t *pairs, size_t pairs_len);
 
 #ifdef __cplusplus
 }

@@ -4,24 +4,25 @@ It stands by itself and uses neither the Rattle code nor the other scripts. Two 
 documents': which five numbers a record that is not there gives (see record_at; crates/records/specs/Records.antt has it too),
 and what stands for numbers that a writer's lists announce and do not hold (see UNLENT; docs/DECISIONS.md, 'Writing files').
 Each call is a function of the call's name that takes the inputs in the call's order, buffers as bytes, and answers (numbers,
-buffer afterwards):
+buffer afterwards). A file is read into a Roster; a Study is what one of its crews sees, and all planning is on that:
 
     record_at(file, at)          five numbers: number, kind, start of the body, its length, the place after it
     check(file)                  three numbers, as all that follow
-    plan(file, ranks, buffer)
-    plan_seeded(file, buffer)
-    run(file, steps, buffer)
+    plan(file, crew, ranks, buffer)
+    plan_seeded(file, crew, buffer)
+    run(file, crew, steps, buffer)
     draw(seed, count, buffer)
-    write(situation, variables, actions, conditions, tasks, seed, buffer)
-    report(file, first, count, buffer)
-    chart(file, actions, pairs)
+    write(situation, variables, actions, conditions, crews, tasks, buffer)
+    report(file, crew, first, count, buffer)
+    chart(file, crew, actions, pairs)
 
 record_at, check and chart write nothing; their buffer afterwards is b"". `printed(input)` is what the program prints.
 `calls(seed, n)` yields n calls as (name, inputs), all but writes, reports and charts; `writes(seed, n)`, `reports(seed, n)` and
 `charts(seed, n)` yield n of these; `answer(name, inputs)` is what such a call answers.
 
     python3 tests/oracle.py --self-test      document 01's worked cases; both ways of planning on random small files; where
-                                             walks break, by following the trace; charts, by trying every order
+                                             walks break, by following the trace; charts, by trying every order; crews
+                                             beside others against crews alone
 """
 
 import itertools
@@ -33,13 +34,13 @@ from dataclasses import dataclass, field, replace
 
 sys.dont_write_bytecode = True
 
-VARIABLE, ACTION, CONDITION, TASK, SEED, END, SITUATIONS, SITUATION = 1, 2, 3, 4, 5, 6, 7, 8
-BODY_LENGTH = {VARIABLE: 1, ACTION: 3, CONDITION: 2, TASK: 3, SEED: 4, END: 0, SITUATIONS: 1, SITUATION: 1}
-MOST_VARIABLES, MOST_VALUES, MOST_ACTIONS = 32, 16, 256
+VARIABLE, ACTION, CONDITION, TASK, SEED, END, SITUATIONS, SITUATION, CREW = 1, 2, 3, 4, 5, 6, 7, 8, 9
+BODY_LENGTH = {VARIABLE: 1, ACTION: 3, CONDITION: 2, TASK: 3, SEED: 4, END: 0, SITUATIONS: 1, SITUATION: 1, CREW: 0}
+MOST_VARIABLES, MOST_VALUES, MOST_ACTIONS, MOST_CREWS = 32, 16, 256, 8
 LARGEST_SEED = 2147483646
 MOST_SEEDS = 64
 MOST_PAIRS = 4096
-LONGEST_FILE = 25544
+LONGEST_FILE = 26482
 MOST_SITUATION = 7
 ALWAYS = 255  # the set of all eight situations, which is not written
 CAME_ROUND = 255  # the second number of 10 where the trace comes round
@@ -61,20 +62,42 @@ class Action:
 
 
 @dataclass
-class Study:
-    counts: list = field(default_factory=list)  # by variable: how many values
-    actions: list = field(default_factory=list)
+class Crew:
     tasks: list = field(default_factory=list)  # by variable: (start, goal)
     seed: int = None
+
+
+@dataclass
+class Roster:
+    """What a file says: what all crews share, and the crews."""
+
+    counts: list = field(default_factory=list)  # by variable: how many values
+    actions: list = field(default_factory=list)
+    crews: list = field(default_factory=list)
     situation: int = 0
-    ended: bool = False
-    places: list = field(default_factory=list, compare=False)  # of the actions' records, while a file is read
+    ended: bool = field(default=False, compare=False)  # while a file is read
+    places: list = field(default_factory=list, compare=False)  # of the actions' records
+
+
+@dataclass
+class Study:
+    """What one crew sees of a file. Where a roster is wanted, it stands for the file in which that crew is alone."""
+
+    counts: list
+    actions: list
+    tasks: list
+    seed: int
+    situation: int = 0
 
     def start(self, variable):
         return self.tasks[variable][0]
 
     def goal(self, variable):
         return self.tasks[variable][1]
+
+    @property
+    def crews(self):
+        return [Crew(self.tasks, self.seed)]
 
 
 class Refused(Exception):
@@ -104,123 +127,136 @@ def record_at(file, at):
     return (0, kind, start, length, start + length), b""
 
 
-def may_come(study, kind):
+def may_come(roster, kind):
     """Whether a record of this kind is allowed after what was read: the situation or not; one or more variables; any number
-    of actions, each followed by its conditions and then its situations or not; one task for each variable; one seed; one
-    end. A situation of 0 and a set of all eight are refused where they stand, so they tell that none was read."""
-    some_variable, some_action, some_task = bool(study.counts), bool(study.actions), bool(study.tasks)
-    all_tasks = some_variable and len(study.tasks) == len(study.counts)
+    of actions, each followed by its conditions and then its situations or not; the crews, each with one task for each
+    variable and one seed, and between two of them what opens the next; one end. A situation of 0 and a set of all eight are
+    refused where they stand, so they tell that none was read."""
+    some_variable, some_action, some_crew = bool(roster.counts), bool(roster.actions), bool(roster.crews)
+    crew = roster.crews[-1] if some_crew else Crew()
+    all_tasks = some_variable and len(crew.tasks) == len(roster.counts)
+    manned = crew.seed is not None
     return {
-        SITUATION: not some_variable and study.situation == 0,
-        VARIABLE: not some_action and not some_task,
-        ACTION: some_variable and not some_task,
-        CONDITION: some_action and not some_task and study.actions[-1].situations == ALWAYS,
-        SITUATIONS: some_action and not some_task and study.actions[-1].situations == ALWAYS,
+        SITUATION: not some_variable and roster.situation == 0,
+        VARIABLE: not some_action and not some_crew,
+        ACTION: some_variable and not some_crew,
+        CONDITION: some_action and not some_crew and roster.actions[-1].situations == ALWAYS,
+        SITUATIONS: some_action and not some_crew and roster.actions[-1].situations == ALWAYS,
         TASK: some_variable and not all_tasks,
-        SEED: all_tasks and study.seed is None,
-        END: study.seed is not None,
+        SEED: all_tasks and not manned,
+        CREW: manned,
+        END: manned,
     }[kind]
 
 
-def is_value(study, variable, value):
+def is_value(roster, variable, value):
     """There is such a variable and the value is not too large."""
-    return variable < len(study.counts) and value < study.counts[variable]
+    return variable < len(roster.counts) and value < roster.counts[variable]
 
 
-def fault_in_variable(study, count):
-    if len(study.counts) == MOST_VARIABLES:
+def fault_in_variable(roster, count):
+    if len(roster.counts) == MOST_VARIABLES:
         return 4
     if not 2 <= count <= MOST_VALUES:
         return 5
     return 0
 
 
-def fault_in_action(study, variable, pre, post):
-    if len(study.actions) == MOST_ACTIONS:
+def fault_in_action(roster, variable, pre, post):
+    if len(roster.actions) == MOST_ACTIONS:
         return 4
-    if not (is_value(study, variable, pre) and is_value(study, variable, post)):
+    if not (is_value(roster, variable, pre) and is_value(roster, variable, post)):
         return 5
     if pre == post:
         return 6
     return 0
 
 
-def fault_in_condition(study, variable, value):
-    action = study.actions[-1]
-    if not is_value(study, variable, value):
+def fault_in_condition(roster, variable, value):
+    action = roster.actions[-1]
+    if not is_value(roster, variable, value):
         return 5
     if variable == action.variable or any(variable <= earlier for earlier, _ in action.conditions):
         return 6
     return 0
 
 
-def fault_in_task(study, variable, start, goal):
-    next_variable = len(study.tasks)
-    if variable != next_variable or not (is_value(study, variable, start) and is_value(study, variable, goal)):
+def fault_in_task(roster, variable, start, goal):
+    next_variable = len(roster.crews[-1].tasks) if roster.crews else 0
+    if variable != next_variable or not (is_value(roster, variable, start) and is_value(roster, variable, goal)):
         return 5
     return 0
 
 
-def fault_in_seed(study, seed):
+def fault_in_seed(roster, seed):
     return 0 if 1 <= seed <= LARGEST_SEED else 5
 
 
-def fault_in_situations(study, situations):
+def fault_in_situations(roster, situations):
     return 6 if situations == ALWAYS else 0
 
 
-def fault_in_situation(study, situation):
+def fault_in_situation(roster, situation):
     if situation > MOST_SITUATION:
         return 5
     return 6 if situation == 0 else 0
 
 
-def fault_of_record(study, file, place):
+def fault_in_crew(roster):
+    return 4 if len(roster.crews) == MOST_CREWS else 0
+
+
+def fault_of_record(roster, file, place):
     """The fault, in the order 2, 3, 1, 4, 5, 6, of the record at a place inside the file; 0 if it has none."""
     kind = file[place]
     if kind not in BODY_LENGTH:
         return 2
-    if not may_come(study, kind):
+    if not may_come(roster, kind):
         return 3
     (number, _, start, length, _), _ = record_at(file, place)
     if number:
         return number
     body = file[start : start + length]
     if kind == VARIABLE:
-        return fault_in_variable(study, *body)
+        return fault_in_variable(roster, *body)
     if kind == ACTION:
-        return fault_in_action(study, *body)
+        return fault_in_action(roster, *body)
     if kind == CONDITION:
-        return fault_in_condition(study, *body)
+        return fault_in_condition(roster, *body)
     if kind == TASK:
-        return fault_in_task(study, *body)
+        return fault_in_task(roster, *body)
     if kind == SEED:
-        return fault_in_seed(study, int.from_bytes(body, "big"))
+        return fault_in_seed(roster, int.from_bytes(body, "big"))
     if kind == SITUATIONS:
-        return fault_in_situations(study, *body)
+        return fault_in_situations(roster, *body)
     if kind == SITUATION:
-        return fault_in_situation(study, *body)
+        return fault_in_situation(roster, *body)
+    if kind == CREW:
+        return fault_in_crew(roster)
     return 0
 
 
-def take(study, kind, body):
+def take(roster, kind, body):
     """Enters a record that has no fault."""
     if kind == VARIABLE:
-        study.counts.append(body[0])
+        roster.counts.append(body[0])
     elif kind == ACTION:
-        study.actions.append(Action(*body))
+        roster.actions.append(Action(*body))
     elif kind == CONDITION:
-        study.actions[-1].conditions.append(tuple(body))
+        roster.actions[-1].conditions.append(tuple(body))
     elif kind == TASK:
-        study.tasks.append((body[1], body[2]))
+        roster.crews = roster.crews or [Crew()]
+        roster.crews[-1].tasks.append((body[1], body[2]))
     elif kind == SEED:
-        study.seed = int.from_bytes(body, "big")
+        roster.crews[-1].seed = int.from_bytes(body, "big")
     elif kind == SITUATIONS:
-        study.actions[-1].situations = body[0]
+        roster.actions[-1].situations = body[0]
     elif kind == SITUATION:
-        study.situation = body[0]
+        roster.situation = body[0]
+    elif kind == CREW:
+        roster.crews.append(Crew())
     else:
-        study.ended = True
+        roster.ended = True
 
 
 def in_force(study, action):
@@ -245,27 +281,40 @@ def unused(study):
 
 def read(file):
     """What the file says; raises Refused with 1 to 8 or 21."""
-    study = Study()
+    roster = Roster()
     place = 0
-    while not study.ended:
+    while not roster.ended:
         if place == len(file):
             raise Refused(1, place)
-        fault = fault_of_record(study, file, place)
+        fault = fault_of_record(roster, file, place)
         if fault:
             raise Refused(fault, place)
         (_, kind, start, length, after), _ = record_at(file, place)
-        take(study, kind, file[start : start + length])
+        take(roster, kind, file[start : start + length])
         if kind == ACTION:
-            study.places.append(place)
+            roster.places.append(place)
         place = after
-    repeat = first_repeat(study)
+    repeat = first_repeat(roster)
     if repeat is not None:
-        raise Refused(7, study.places[repeat])
-    for variable in unused(study):
+        raise Refused(7, roster.places[repeat])
+    for variable in unused(roster):
         raise Refused(21, variable)
     if place < len(file):
         raise Refused(8, place)
-    return study
+    return roster
+
+
+def study_of(roster, number):
+    """What the crew of a number sees; raises Refused with 22 where it is not there."""
+    if number >= len(roster.crews):
+        raise Refused(22, number)
+    crew = roster.crews[number]
+    return Study(roster.counts, roster.actions, crew.tasks, crew.seed, roster.situation)
+
+
+def heard(file, number):
+    """What the file says to a crew; raises Refused with 1 to 8, 21 or 22."""
+    return study_of(read(file), number)
 
 
 # ---------------------------------------------------------------------------------------------------------------------
@@ -501,15 +550,15 @@ def filled(buffer, entries):
 
 def check(file):
     try:
-        study = read(file)
+        roster = read(file)
     except Refused as refused:
         return refused.numbers, b""
-    return (0, len(study.actions), len(study.counts)), b""
+    return (0, len(roster.actions), len(roster.counts)), b""
 
 
-def plan(file, ranks, buffer):
+def plan(file, crew, ranks, buffer):
     try:
-        study = read(file)
+        study = heard(file, crew)
         test_ranks(ranks, len(study.actions))
         steps = planned(study, ranks)
         return (0, len(steps), 0), filled(buffer, steps)
@@ -517,9 +566,9 @@ def plan(file, ranks, buffer):
         return refused.numbers, buffer
 
 
-def plan_seeded(file, buffer):
+def plan_seeded(file, crew, buffer):
     try:
-        study = read(file)
+        study = heard(file, crew)
         ranks, _ = drawn(study.seed, len(study.actions))
         steps = planned(study, ranks)
         return (0, len(steps), 0), filled(buffer, steps)
@@ -556,9 +605,9 @@ def end_state(study, steps):
     return state
 
 
-def run(file, steps, buffer):
+def run(file, crew, steps, buffer):
     try:
-        study = read(file)
+        study = heard(file, crew)
         filled(buffer, bytes(len(study.counts)))  # 13 comes before the steps
         return (0, len(study.counts), 0), filled(buffer, end_state(study, steps))
     except Refused as refused:
@@ -577,10 +626,11 @@ def draw(seed, count, buffer):
         return refused.numbers, buffer
 
 
-# What stands for each number of an entry that is cut short, and of a condition that is announced and not lent. Conditions
-# that no action takes are those of one more action, all of whose numbers are this; so are all that an action that is cut
-# short finds left.
+# What stands for each number of an entry that is cut short, and of a condition or task that is announced and not lent.
+# Conditions that no action takes are those of one more action, all of whose numbers are this; so are all that an action that
+# is cut short finds left. Tasks and crews likewise: the seed is then four such bytes.
 UNLENT = 255
+UNLENT_SEED = 0xFFFFFFFF
 
 
 def entries_in(data, width):
@@ -602,17 +652,31 @@ def lent_actions(actions, conditions):
     return lent + [Action(UNLENT, UNLENT, UNLENT, left)] * bool(left)
 
 
-def file_of_lists(situation, variables, actions, conditions, tasks, seed):
+def lent_crews(crews, tasks):
+    """The crews that two lists of bytes stand for: each the tasks, with the variables that they name, and the seed."""
+    left = entries_in(tasks, 3)
+    lent = []
+    for at in range(0, len(crews), 5):
+        entry = crews[at : at + 5]
+        many, seed = (entry[0], int.from_bytes(entry[1:], "big")) if len(entry) == 5 else (len(left), UNLENT_SEED)
+        missing = [(UNLENT,) * 3] * (many - len(left))
+        lent.append((left[:many] + missing, seed))
+        left = left[many:]
+    return lent + [(left, UNLENT_SEED)] * bool(left)
+
+
+def file_of_lists(situation, variables, actions, conditions, crews, tasks):
     """The bytes that the lists stand for: the records one after another in the file's order. Nothing is tested."""
     records = situation_records(situation) + [bytes([VARIABLE, count]) for count in variables]
     records += [record for action in lent_actions(actions, conditions) for record in action_records(action)]
-    records += [bytes([TASK, *task]) for task in entries_in(tasks, 3)]
-    return b"".join(records) + seed_record(seed) + bytes([END])
+    for number, (errands, seed) in enumerate(lent_crews(crews, tasks)):
+        records += opening_records(number) + [bytes([TASK, *errand]) for errand in errands] + [seed_record(seed)]
+    return b"".join(records) + bytes([END])
 
 
-def write(situation, variables, actions, conditions, tasks, seed, buffer):
+def write(situation, variables, actions, conditions, crews, tasks, buffer):
     """Refused exactly as the reader refuses the bytes; then 13."""
-    file = file_of_lists(situation, variables, actions, conditions, tasks, seed)
+    file = file_of_lists(situation, variables, actions, conditions, crews, tasks)
     try:
         read(file)
         return (0, len(file), 0), filled(buffer, file)
@@ -640,9 +704,9 @@ def outcome_of_seed(study, seed):
         return refused.numbers[0]
 
 
-def report(file, first, count, buffer):
+def report(file, crew, first, count, buffer):
     try:
-        study = read(file)
+        study = heard(file, crew)
         if not 1 <= count <= MOST_SEEDS:
             raise Refused(19, count)
         seeds = range(first, first + count)
@@ -729,9 +793,9 @@ def judged_chart(study, actions, pairs, actions_to_try=ACTIONS_TO_TRY):
     return numbers
 
 
-def chart(file, actions, pairs):
+def chart(file, crew, actions, pairs):
     try:
-        study = read(file)
+        study = heard(file, crew)
     except Refused as refused:
         return refused.numbers, b""
     return judged_chart(study, list(actions), pairs_in(pairs)), b""
@@ -755,13 +819,12 @@ def answer(name, inputs):
     return CALLS[name](*inputs)
 
 
-def printed(standard_input):
-    """What the program prints, which reads one byte more than the longest file allowed."""
-    file = standard_input[: LONGEST_FILE + 1]
-    numbers, buffer = plan_seeded(file, bytes(MOST_ACTIONS))
+def printed_for(file, crew):
+    """A crew's plan or refusal."""
+    numbers, buffer = plan_seeded(file, crew, bytes(MOST_ACTIONS))
     if numbers[0]:
         return "refused %d %d %d\n" % numbers
-    study = read(file)
+    study = heard(file, crew)
     lines = [f"plan {numbers[1]}\n"]
     for step, number in enumerate(buffer[: numbers[1]]):
         action = study.actions[number]
@@ -769,8 +832,19 @@ def printed(standard_input):
     return "".join(lines)
 
 
+def printed(standard_input):
+    """What the program prints, which reads one byte more than the longest file allowed: each crew in turn, or the one line of a
+    file that does not load."""
+    file = standard_input[: LONGEST_FILE + 1]
+    try:
+        crews = len(read(file).crews)
+    except Refused as refused:
+        return "refused %d %d %d\n" % refused.numbers
+    return "".join(printed_for(file, crew) for crew in range(crews))
+
+
 # ---------------------------------------------------------------------------------------------------------------------
-# Files from studies. Nothing is tested: a study may be faulty.
+# Files from rosters, and from studies of one crew. Nothing is tested: they may be faulty.
 
 
 def situation_records(situation):
@@ -789,29 +863,39 @@ def seed_record(seed):
     return bytes([SEED]) + seed.to_bytes(4, "big")
 
 
-def records_of(study):
+def opening_records(number):
+    """What opens the crew of a number: nothing opens the first."""
+    return [bytes([CREW])] if number else []
+
+
+def crew_records(number, crew):
+    tasks = [bytes([TASK, v, start, goal]) for v, (start, goal) in enumerate(crew.tasks)]
+    return opening_records(number) + tasks + [seed_record(crew.seed)]
+
+
+def records_of(roster):
     return (
-        situation_records(study.situation)
-        + [bytes([VARIABLE, count]) for count in study.counts]
-        + [record for action in study.actions for record in action_records(action)]
-        + [bytes([TASK, v, start, goal]) for v, (start, goal) in enumerate(study.tasks)]
-        + [seed_record(study.seed), bytes([END])]
+        situation_records(roster.situation)
+        + [bytes([VARIABLE, count]) for count in roster.counts]
+        + [record for action in roster.actions for record in action_records(action)]
+        + [record for number, crew in enumerate(roster.crews) for record in crew_records(number, crew)]
+        + [bytes([END])]
     )
 
 
-def file_of(study):
-    return b"".join(records_of(study))
+def file_of(roster):
+    return b"".join(records_of(roster))
 
 
-def lists_of(study):
-    """What `write` is given to write the study: situation, variables, actions, conditions, tasks, seed."""
+def lists_of(roster):
+    """What `write` is given to write the roster: situation, variables, actions, conditions, crews, tasks."""
     return (
-        study.situation,
-        bytes(study.counts),
-        bytes(byte for a in study.actions for byte in (a.variable, a.pre, a.post, a.situations, len(a.conditions))),
-        bytes(byte for a in study.actions for condition in a.conditions for byte in condition),
-        bytes(byte for v, (start, goal) in enumerate(study.tasks) for byte in (v, start, goal)),
-        study.seed,
+        roster.situation,
+        bytes(roster.counts),
+        bytes(byte for a in roster.actions for byte in (a.variable, a.pre, a.post, a.situations, len(a.conditions))),
+        bytes(byte for a in roster.actions for condition in a.conditions for byte in condition),
+        b"".join(bytes([len(crew.tasks)]) + crew.seed.to_bytes(4, "big") for crew in roster.crews),
+        bytes(byte for crew in roster.crews for v, (start, goal) in enumerate(crew.tasks) for byte in (v, start, goal)),
     )
 
 
@@ -1002,6 +1086,67 @@ def small_study(rng):
 
 
 # ---------------------------------------------------------------------------------------------------------------------
+# Crews beside a study's own. Each has tasks of its own for the same actions.
+
+CREWS_NOT_THERE = [1, 2, 8, 255, 256, 2**32, 2**64 - 1]
+
+
+def tasks_done_at_random(rng, study):
+    """To where some actions lead that may be done one after another, from the study's start or another."""
+    start = rng.choice([start_state(study), tuple(rng.randrange(count) for count in study.counts)])
+    state = start
+    for _ in range(rng.randint(1, 8)):
+        ready = [action for action in study.actions if in_force(study, action) and may_be_done(state, action)]
+        state = done(state, rng.choice(ready)) if ready else state
+    return list(zip(start, state))
+
+
+def other_tasks(rng, study):
+    """Any; those of a way that can be gone; the study's own, some of them changed, turned round, at rest, or the same."""
+    way = rng.randrange(7)
+    if way == 0:
+        return [(rng.randrange(count), rng.randrange(count)) for count in study.counts]
+    if way < 3:
+        return tasks_done_at_random(rng, study)
+    if way == 3:
+        return [(start, goal if rng.random() < 0.7 else start) for start, goal in study.tasks]
+    if way == 4:
+        return [(goal, start) for start, goal in study.tasks]
+    if way == 5:
+        return [(goal, goal) for _, goal in study.tasks]
+    return list(study.tasks)
+
+
+def crewed(rng, study, many=None):
+    """A roster in which the study's crew stands among others, and its number there."""
+    many = many or rng.choice([1, 1, 2, 2, 3, rng.randint(1, MOST_CREWS)])
+    number = rng.randrange(many)
+    crews = [Crew(other_tasks(rng, study), some_seed(rng)) for _ in range(many - 1)]
+    crews.insert(number, Crew(list(study.tasks), study.seed))
+    return Roster(study.counts, study.actions, crews, study.situation), number
+
+
+def named(rng, number, many):
+    """The crew that a call names: mostly the one of this number, now and then another one of so many, or one that is not there."""
+    way = rng.random()
+    if way < 0.85:
+        return number
+    if way < 0.93:
+        return rng.randrange(many)
+    return rng.choice([many, many, 2**32 + number, 256 + number, *CREWS_NOT_THERE])
+
+
+def placed(rng, study, many=None):
+    """A file with the study's crew, and the crew that a call names."""
+    roster, number = crewed(rng, study, many)
+    return file_of(roster), named(rng, number, len(roster.crews))
+
+
+def small_roster(rng):
+    return crewed(rng, small_study(rng))[0]
+
+
+# ---------------------------------------------------------------------------------------------------------------------
 # Studies at the limits
 
 
@@ -1012,7 +1157,8 @@ def study_of_rows(rng, counts, rows, share):
 
 
 def longest(rng):
-    """25,544 bytes: a situation, and 256 actions, each with 31 conditions and its set, all of them in the one straight plan."""
+    """26,482 bytes with eight crews: a situation, and 256 actions, each with 31 conditions and its set, all of them in the one
+    straight plan."""
     rows = [rng.sample(range(16), 9) for _ in range(32)]
     study = study_of_rows(rng, [16] * 32, rows, 1)
     study.situation = rng.randint(1, MOST_SITUATION)
@@ -1107,10 +1253,14 @@ def large_study(rng):
     return rng.choice(LARGE)(rng)
 
 
+def placed_large(rng, study):
+    return placed(rng, study, rng.choice([None, MOST_CREWS]))
+
+
 # ---------------------------------------------------------------------------------------------------------------------
 # Damaged files. Each generator takes a random.Random and answers bytes that mostly do not load.
 
-TELLING = [0, 1, 2, 3, 4, 5, 6, 7, 8, 15, 16, 17, 31, 32, 33, 127, 128, 255]
+TELLING = [0, 1, 2, 3, 4, 5, 6, 7, 8, 9, 10, 15, 16, 17, 31, 32, 33, 127, 128, 255]
 BAD_SEEDS = [0, 2147483647, 2147483648, 4294967295]
 
 
@@ -1145,28 +1295,28 @@ def grown(rng, file):
 BYTE_DAMAGE = [with_byte_changed, with_byte_changed, with_byte_inserted, with_byte_removed, cut, grown]
 
 
-def telling_record(rng, study):
-    """A record of any kind whose numbers are near those that the study has."""
+def telling_record(rng, roster):
+    """A record of any kind whose numbers are near those that the roster has."""
     kinds = [VARIABLE, ACTION, ACTION, ACTION, CONDITION, CONDITION, CONDITION, TASK, TASK, SEED, END]
-    kind = rng.choice(kinds + [SITUATIONS, SITUATIONS, SITUATIONS, SITUATION])
+    kind = rng.choice(kinds + [SITUATIONS, SITUATIONS, SITUATIONS, SITUATION, CREW, CREW])
     if kind == SEED:
         return bytes([kind]) + rng.choice(BAD_SEEDS + [1, LARGEST_SEED]).to_bytes(4, "big")
-    variables = len(study.counts)
-    near = [0, 1, 2, 3, variables - 1, variables, *study.counts, some_byte(rng)]
+    variables = len(roster.counts)
+    near = [0, 1, 2, 3, variables - 1, variables, *roster.counts, some_byte(rng)]
     if kind in (SITUATIONS, SITUATION):
         near = [0, 1, 7, 8, 254, ALWAYS, some_byte(rng)]
     return bytes([kind] + [rng.choice(near) for _ in range(BODY_LENGTH[kind])])
 
 
-def with_records_damaged(rng, study):
+def with_records_damaged(rng, roster):
     """A record put in, put in another's place, left out, doubled, or exchanged with another; perhaps the rest cut off."""
-    records = records_of(study)
+    records = records_of(roster)
     at = rng.randrange(len(records))
     way = rng.randrange(6)
     if way == 0:
-        records.insert(at, telling_record(rng, study))
+        records.insert(at, telling_record(rng, roster))
     elif way == 1:
-        records[at] = telling_record(rng, study)
+        records[at] = telling_record(rng, roster)
     elif way == 2:
         del records[at]
     elif way == 3:
@@ -1175,53 +1325,67 @@ def with_records_damaged(rng, study):
         other = rng.randrange(len(records))
         records[at], records[other] = records[other], records[at]
     else:
-        records[at:] = [telling_record(rng, study)]
+        records[at:] = [telling_record(rng, roster)]
         records[at] = records[at][: rng.randint(1, len(records[at]))]
     return b"".join(records)
 
 
-def give_named_fault(rng, study):
-    """One of the faults that documents name: in values, order of conditions, own variable, repeated post, task, seed or situation;
-    or some variables that nobody uses."""
-    way = rng.randrange(10)
-    if way == 9:
-        for v in rng.sample(range(len(study.counts)), rng.randint(1, min(2, len(study.counts)))):
-            study.actions = [action for action in study.actions if action.variable != v]
-            for action in study.actions:
+def give_named_fault(rng, roster):
+    """One of the faults that documents name: in values, order of conditions, own variable, repeated post, situation, or some
+    crew's task or seed; or some variables that nobody uses; or a ninth crew."""
+    way = rng.randrange(11)
+    crew = rng.choice(roster.crews)
+    if way == 10:
+        roster.crews += [Crew(list(crew.tasks), crew.seed) for _ in range(MOST_CREWS + 1 - len(roster.crews))]
+        roster.crews[-1].seed = rng.choice([crew.seed, 0])
+    elif way == 9:
+        for v in rng.sample(range(len(roster.counts)), rng.randint(1, min(2, len(roster.counts)))):
+            roster.actions = [action for action in roster.actions if action.variable != v]
+            for action in roster.actions:
                 action.conditions = [condition for condition in action.conditions if condition[0] != v]
     elif way == 8:
-        study.situation = rng.choice([8, 9, 128, 255])
+        roster.situation = rng.choice([8, 9, 128, 255])
     elif way == 0:
-        study.seed = rng.choice(BAD_SEEDS)
+        crew.seed = rng.choice(BAD_SEEDS)
     elif way == 1:
-        study.counts[rng.randrange(len(study.counts))] = rng.choice([0, 1, 17, 255])
+        roster.counts[rng.randrange(len(roster.counts))] = rng.choice([0, 1, 17, 255])
     elif way == 2:
-        study.tasks = rng.choice([study.tasks[:-1], study.tasks + [(0, 0)]])
+        crew.tasks = rng.choice([crew.tasks[:-1], crew.tasks + [(0, 0)], []])
     elif way == 3:
-        v = rng.randrange(len(study.counts))
-        study.tasks[v] = rng.choice([(study.counts[v], 0), (0, study.counts[v])])
-    elif study.actions:
-        action = rng.choice(study.actions)
+        v = rng.randrange(len(roster.counts))
+        crew.tasks[v] = rng.choice([(roster.counts[v], 0), (0, roster.counts[v])])
+    elif roster.actions:
+        action = rng.choice(roster.actions)
         if way == 4:
             action.conditions.reverse()
         elif way == 5:
-            action.conditions.append((action.variable, rng.choice([action.pre, study.counts[action.variable]])))
+            action.conditions.append((action.variable, rng.choice([action.pre, roster.counts[action.variable]])))
         elif way == 6:
             situations = rng.choice([action.situations, ALWAYS, rng.randrange(256)])
-            twin = replace(action, pre=rng.randrange(study.counts[action.variable]), conditions=[], situations=situations)
-            study.actions.insert(rng.randint(0, len(study.actions)), twin)
+            twin = replace(action, pre=rng.randrange(roster.counts[action.variable]), conditions=[], situations=situations)
+            roster.actions.insert(rng.randint(0, len(roster.actions)), twin)
         else:
-            action.pre = rng.choice([action.post, study.counts[action.variable]])
+            action.pre = rng.choice([action.post, roster.counts[action.variable]])
 
 
-def with_named_fault(rng, study):
-    give_named_fault(rng, study)
-    return file_of(study)
+def with_named_fault(rng, roster):
+    give_named_fault(rng, roster)
+    return file_of(roster)
+
+
+def with_ninth_crew(rng):
+    """Eight crews and one more: alone, faulty or not; or what may not come behind the eighth's seed."""
+    roster, _ = crewed(rng, rng.choice([small_study, one_action_each])(rng), MOST_CREWS)
+    eight = b"".join(records_of(roster)[:-1])
+    ninth = b"".join(crew_records(1, rng.choice(roster.crews)))
+    return eight + rng.choice([b"\x09", ninth, ninth + b"\x06", b"\x09\x09", b"\x09\x06", b"\x09\x04\x01", b"\x04", b"\x05", b""])
 
 
 def beyond_limits(rng):
-    """A 33rd variable or a 257th action, whole or cut, faulty otherwise or not; or a longest file with a byte more."""
-    way = rng.randrange(4)
+    """A 33rd variable, a 257th action or a ninth crew, whole or cut, faulty otherwise or not; or a longest file with a byte more."""
+    way = rng.randrange(5)
+    if way == 4:
+        return with_ninth_crew(rng)
     if way == 0:
         head = bytes([VARIABLE, 2]) * 32
         return head + rng.choice([b"\x01", b"\x01\x00", b"\x01\x02", b"\x01\x11", b"\x04\x00\x00", b"\x07", b""])
@@ -1236,7 +1400,7 @@ def beyond_limits(rng):
         action = rng.choice(study.actions)
         action.conditions.append(rng.choice([(31, 1), (32, 0), (action.variable, 1), (0, 2)]))
         return file_of(study)
-    return file_of(longest(rng)) + bytes([some_byte(rng)])
+    return file_of(crewed(rng, longest(rng), MOST_CREWS)[0]) + bytes([some_byte(rng)])
 
 
 def damaged_file(rng):
@@ -1244,13 +1408,18 @@ def damaged_file(rng):
     if way < 0.02:
         return bytes(some_byte(rng) for _ in range(rng.randint(0, 12)))
     if way < 0.4:
-        file = file_of(small_study(rng))
+        file = file_of(small_roster(rng))
         for _ in range(rng.choice([1, 1, 2])):
             file = rng.choice(BYTE_DAMAGE)(rng, file) if file else file
         return file
     if way < 0.75:
-        return with_records_damaged(rng, small_study(rng))
-    return with_named_fault(rng, small_study(rng))
+        return with_records_damaged(rng, small_roster(rng))
+    return with_named_fault(rng, small_roster(rng))
+
+
+def some_crew(rng):
+    """The crew that a call on a damaged file names."""
+    return named(rng, rng.choice([0, 0, 1]), 3)
 
 
 # ---------------------------------------------------------------------------------------------------------------------
@@ -1360,7 +1529,7 @@ def draw_edges():
 # Calls
 
 
-def call_on(rng, name, study, file):
+def call_on(rng, name, study, file, crew):
     """A call on a file; the study is what its other inputs are made for."""
     count, variables = len(study.actions), len(study.counts)
     if name == "record_at":
@@ -1372,41 +1541,41 @@ def call_on(rng, name, study, file):
     if name == "plan":
         ranks = bad_rank_list(rng, count) if rng.random() < 0.2 else rank_list(rng, count)
         needed = len(steps_that_run(rng, study))
-        return name, (file, ranks, rng.choice([some_buffer, room_enough])(rng, needed))
+        return name, (file, crew, ranks, rng.choice([some_buffer, room_enough])(rng, needed))
     if name == "plan_seeded":
         needed = len(steps_that_run(rng, study))
-        return name, (file, rng.choice([some_buffer, room_enough])(rng, needed))
+        return name, (file, crew, rng.choice([some_buffer, room_enough])(rng, needed))
     buffer = room_enough(rng, variables) if rng.random() < 0.85 else some_buffer(rng, variables)
-    return name, (file, some_steps(rng, study), buffer)
+    return name, (file, crew, some_steps(rng, study), buffer)
 
 
 def call_on_small(rng):
     study = small_study(rng)
     name = rng.choices(["record_at", "check", "plan", "plan_seeded", "run"], [1, 1, 5, 2, 4])[0]
-    return call_on(rng, name, study, file_of(study))
+    return call_on(rng, name, study, *placed(rng, study))
 
 
 def call_on_middling(rng):
     study = middling(rng)
     name = rng.choice(["check", "plan", "plan", "plan_seeded", "run"])
-    return call_on(rng, name, study, file_of(study))
+    return call_on(rng, name, study, *placed(rng, study))
 
 
 def call_on_large(rng):
     study = large_study(rng)
     name = rng.choice(["record_at", "check", "plan", "plan", "plan_seeded", "plan_seeded", "run", "run"])
-    return call_on(rng, name, study, file_of(study))
+    return call_on(rng, name, study, *placed_large(rng, study))
 
 
 def call_on_damaged(rng):
     """The other inputs are for a study that is often not the file's, so that they are faulty too."""
     name = rng.choices(["record_at", "check", "plan", "plan_seeded", "run"], [3, 8, 1, 1, 1])[0]
-    return call_on(rng, name, small_study(rng), damaged_file(rng))
+    return call_on(rng, name, small_study(rng), damaged_file(rng), some_crew(rng))
 
 
 def call_beyond_limits(rng):
     name = rng.choices(["record_at", "check", "plan", "plan_seeded", "run"], [1, 6, 2, 2, 2])[0]
-    return call_on(rng, name, small_study(rng), beyond_limits(rng))
+    return call_on(rng, name, small_study(rng), beyond_limits(rng), some_crew(rng))
 
 
 def call_draw(rng, edges):
@@ -1449,13 +1618,13 @@ def write_of(rng, lists):
 
 
 def lists_that_load(rng):
-    return lists_of(rng.choices([small_study, middling], [20, 1])[0](rng))
+    return lists_of(crewed(rng, rng.choices([small_study, middling], [20, 1])[0](rng))[0])
 
 
 def lists_with_named_fault(rng):
-    study = small_study(rng)
-    give_named_fault(rng, study)
-    return lists_of(study)
+    roster = small_roster(rng)
+    give_named_fault(rng, roster)
+    return lists_of(roster)
 
 
 def with_list_damaged(rng, lists, which, damages):
@@ -1465,46 +1634,67 @@ def with_list_damaged(rng, lists, which, damages):
 
 
 def damaged_lists(rng):
-    """Bytes of one or two lists changed, put in or left out: entries that are cut, conditions missing or left over."""
-    lists = lists_of(small_study(rng))
+    """Bytes of one or two lists changed, put in or left out: entries that are cut, conditions or tasks missing or left over."""
+    lists = lists_of(small_roster(rng))
     for _ in range(rng.choice([1, 1, 2])):
-        lists = with_list_damaged(rng, lists, rng.randrange(1, 5), BYTE_DAMAGE)
+        lists = with_list_damaged(rng, lists, rng.randrange(1, 6), BYTE_DAMAGE)
     return lists
 
 
 def cut_lists(rng):
-    """A last entry that is cut, or conditions left over or missing, and no other fault."""
-    lists = lists_of(small_study(rng))
-    which = rng.randrange(2, 5)
+    """A last entry that is cut, or conditions or tasks left over or missing, and no other fault."""
+    lists = lists_of(small_roster(rng))
+    which = rng.randrange(2, 6)
     return with_list_damaged(rng, lists, which, [cut, lambda rng, data: data + data[: rng.randint(1, len(data))]])
 
 
 def lists_with_many(rng):
     """An action that announces more conditions than there are variables, whether they are lent or not."""
-    situation, variables, actions, conditions, tasks, seed = lists_of(small_study(rng))
+    situation, variables, actions, conditions, crews, tasks = lists_of(small_roster(rng))
     at = rng.randint(0, len(actions) // 5) * 5
     many = rng.choice([1, 31, 32, 33, 254, 255])
     lent = rng.choice([0, 2 * many - 1, 2 * many, 2 * many + 2])
     more = bytes(rng.randrange(3) for _ in range(lent))
     entry = bytes([rng.randrange(len(variables)), 0, 1, rng.choice([0, 1, ALWAYS]), many])
-    return situation, variables, actions[:at] + entry + actions[at:], conditions + more, tasks, seed
+    return situation, variables, actions[:at] + entry + actions[at:], conditions + more, crews, tasks
+
+
+def lists_with_many_tasks(rng):
+    """A crew that announces more tasks than there are variables, or fewer, whether they are lent or not; or one crew more."""
+    situation, variables, actions, conditions, crews, tasks = lists_of(small_roster(rng))
+    at = rng.randrange(len(crews) // 5) * 5
+    many = rng.choice([0, len(variables) - 1, len(variables), len(variables) + 1, 32, 33, 254, 255])
+    more = rng.choice([b"", tasks[: 3 * many], tasks[: 3 * len(variables)], tasks[:1]])
+    entry = bytes([many]) + crews[at + 1 : at + 5]
+    return situation, variables, actions, conditions, crews[:at] + entry + crews[at + rng.choice([0, 5]) :], tasks + more
 
 
 def lists_without(rng):
     """Some lists empty."""
-    lists = list(lists_of(small_study(rng)))
-    for which in rng.sample(range(1, 5), rng.randint(1, 4)):
+    lists = list(lists_of(small_roster(rng)))
+    for which in rng.sample(range(1, 6), rng.randint(1, 5)):
         lists[which] = b""
     return tuple(lists)
 
 
 def lists_at_limits(rng):
-    return lists_of(large_study(rng))
+    return lists_of(crewed(rng, large_study(rng), rng.choice([None, MOST_CREWS]))[0])
+
+
+def lists_with_ninth_crew(rng):
+    """Eight crews and one more: whole, faulty, cut, or none but its tasks."""
+    situation, variables, actions, conditions, crews, tasks = lists_of(crewed(rng, small_study(rng), MOST_CREWS)[0])
+    entry, own = crews[:5], tasks[: 3 * len(variables)]
+    entry = rng.choice([entry, entry[:1] + bytes(4), b"\0" + entry[1:], entry[: rng.randint(0, 4)]])
+    return situation, variables, actions, conditions, crews + entry, tasks + rng.choice([own, own, own[:-1], b""])
 
 
 def lists_beyond_limits(rng):
-    """A 33rd variable, a 257th action, conditions left over behind the 256th, a 32nd condition; faulty otherwise or not."""
-    way = rng.randrange(4)
+    """A 33rd variable, a 257th action, conditions left over behind the 256th, a 32nd condition, a ninth crew; faulty otherwise
+    or not."""
+    way = rng.randrange(5)
+    if way == 4:
+        return lists_with_ninth_crew(rng)
     if way == 0:
         study = most_variables(rng)
         study.counts.append(rng.choice([0, 2, 16, 17]))
@@ -1517,18 +1707,18 @@ def lists_beyond_limits(rng):
     if way == 3:
         action = rng.choice(study.actions)
         action.conditions.append(rng.choice([(31, 1), (32, 0), (action.variable, 1), (0, 2)]))
-    situation, variables, actions, conditions, tasks, seed = lists_of(study)
+    situation, variables, actions, conditions, crews, tasks = lists_of(study)
     if way == 2:
         cut_or_left = rng.choice([(b"\0", b""), (b"\0\0\1\1", b"\0\0"), (b"", b"\0"), (b"", b"\0\0")])
-        return situation, variables, actions + cut_or_left[0], conditions + cut_or_left[1], tasks, seed
-    return situation, variables, actions, conditions, tasks, seed
+        return situation, variables, actions + cut_or_left[0], conditions + cut_or_left[1], crews, tasks
+    return situation, variables, actions, conditions, crews, tasks
 
 
 def any_lists(rng):
     """Bytes of any kind."""
     most = rng.choice([4, 12, 300])
-    lists = (bytes(some_byte(rng) for _ in range(rng.randint(0, most))) for _ in range(4))
-    return (rng.choice([0, some_byte(rng)]), *lists, rng.choice([*BAD_SEEDS, 1, LARGEST_SEED, rng.randrange(2**32)]))
+    lists = (bytes(some_byte(rng) for _ in range(rng.randint(0, most))) for _ in range(5))
+    return rng.choice([0, some_byte(rng)]), *lists
 
 
 def writes(seed, n):
@@ -1540,9 +1730,10 @@ def writes(seed, n):
         (200, damaged_lists),
         (100, cut_lists),
         (60, lists_with_many),
+        (60, lists_with_many_tasks),
         (30, lists_without),
         (12, lists_at_limits),
-        (18, lists_beyond_limits),
+        (20, lists_beyond_limits),
         (30, any_lists),
     ]
     weights = [weight for weight, _ in makers]
@@ -1563,34 +1754,47 @@ def some_seeds(rng):
     return rng.choice([0, 2**31, 2**64 - 1, LARGEST_SEED, LARGEST_SEED - min(count, 64) + rng.choice([0, 1, 2])]), count
 
 
-def report_on(rng, study, file, first, count):
+def report_on(rng, study, file, crew, first, count):
     try:
         length = 5 + len(planned_by_walks(study, range(len(study.actions)))) * len(study.actions)
     except Refused:
         length = 5
-    return "report", (file, first, count, rng.choice([some_buffer, room_enough])(rng, length))
+    return "report", (file, crew, first, count, rng.choice([some_buffer, room_enough])(rng, length))
 
 
 def report_on_small(rng):
     study = small_study(rng)
-    return report_on(rng, study, file_of(study), *some_seeds(rng))
+    return report_on(rng, study, *placed(rng, study), *some_seeds(rng))
 
 
 def report_on_larger(rng):
     """Few seeds, since each is planned by definitions."""
     study = rng.choices([middling, large_study], [3, 1])[0](rng)
-    return report_on(rng, study, file_of(study), rng.randint(1, LARGEST_SEED - 64), rng.randint(1, 3))
+    return report_on(rng, study, *placed_large(rng, study), rng.randint(1, LARGEST_SEED - 64), rng.randint(1, 3))
 
 
 def with_an_action_again(rng):
     study, _ = solvable_with_steps(rng)
     study.actions.append(rng.choice(study.actions))
-    return file_of(study)
+    return file_of(crewed(rng, study)[0])
+
+
+def with_a_dead_variable(rng):
+    study = small_study(rng)
+    study.counts.append(2)
+    study.tasks.append((0, rng.randrange(2)))
+    return file_of(crewed(rng, study)[0])
+
+
+def file_that_does_not_load(rng):
+    """Mostly."""
+    makers = [damaged_file, beyond_limits, with_an_action_again, with_a_dead_variable]
+    return rng.choices(makers, [7, 1, 1, 1])[0](rng)
 
 
 def report_on_damaged(rng):
-    file = rng.choices([damaged_file, beyond_limits, with_an_action_again], [8, 1, 1])[0](rng)
-    return report_on(rng, small_study(rng), file, *some_seeds(rng))
+    file = file_that_does_not_load(rng)
+    return report_on(rng, small_study(rng), file, some_crew(rng), *some_seeds(rng))
 
 
 def reports(seed, n):
@@ -1738,12 +1942,12 @@ def altered(rng, draft):
     return draft
 
 
-def chart_of(rng, draft, file):
+def chart_of(rng, draft, file, crew):
     """The call, now and then with a lone last byte."""
     pairs = bytes(byte for pair in draft.pairs for byte in pair)
     if rng.random() < 0.06:
         pairs = pairs[:-1] if rng.random() < 0.5 else pairs + bytes([rng.choice(draft.actions or [0])])
-    return "chart", (file, bytes(draft.actions), pairs)
+    return "chart", (file, crew, bytes(draft.actions), pairs)
 
 
 def with_several_plans(rng):
@@ -1757,7 +1961,7 @@ def with_several_plans(rng):
 
 def chart_on_small(rng):
     study = rng.choices([small_study, with_several_plans], [1, 2])[0](rng)
-    return chart_of(rng, altered(rng, own_draft(rng, study)), file_of(study))
+    return chart_of(rng, altered(rng, own_draft(rng, study)), *placed(rng, study))
 
 
 def chart_at_rest(rng):
@@ -1765,7 +1969,7 @@ def chart_at_rest(rng):
     study = small_study(rng)
     study.tasks = [(start, start) for start, _ in study.tasks]
     draft = own_draft(rng, study)
-    return chart_of(rng, rng.choice([keep_as_it_is, altered])(rng, draft) or draft, file_of(study))
+    return chart_of(rng, rng.choice([keep_as_it_is, altered])(rng, draft) or draft, *placed(rng, study))
 
 
 def filled_up(rng, entries, spare, length):
@@ -1783,13 +1987,13 @@ def chart_at_limits(rng):
     if way == 0 or len(draft.order) < 2:
         spare = draft.actions or [0]
         draft.actions = filled_up(rng, draft.actions, spare, rng.choice([255, 256, 257, 257, 300]))
-        return chart_of(rng, draft, file_of(study))
+        return chart_of(rng, draft, *placed_large(rng, study))
     take_the_order(rng, draft)
     along = [(draft.order[i], b) for i in range(len(draft.order)) for b in draft.order[i + 1 :]]
     draft.pairs = filled_up(rng, draft.pairs, along, rng.choice([len(draft.pairs), 4095, 4096, 4096, 4097]))
     if way > 2:
         rng.choice(FAULTS)(rng, draft)
-    return chart_of(rng, draft, file_of(study))
+    return chart_of(rng, draft, *placed_large(rng, study))
 
 
 def chart_on_middling(rng):
@@ -1797,12 +2001,12 @@ def chart_on_middling(rng):
     draft = own_draft(rng, study)
     for change in rng.sample([take_the_order, shuffle_lists, rng.choice(FAULTS)], rng.randint(0, 3)):
         change(rng, draft)
-    return chart_of(rng, draft, file_of(study))
+    return chart_of(rng, draft, *placed_large(rng, study))
 
 
 def chart_on_damaged(rng):
-    file = rng.choices([damaged_file, beyond_limits, with_an_action_again], [8, 1, 1])[0](rng)
-    return chart_of(rng, altered(rng, own_draft(rng, small_study(rng))), file)
+    file = file_that_does_not_load(rng)
+    return chart_of(rng, altered(rng, own_draft(rng, small_study(rng))), file, some_crew(rng))
 
 
 def charts(seed, n):
@@ -1825,7 +2029,13 @@ PORTER_PRINTED = "plan 4\n0 1 1 0 1\n1 0 0 0 1\n2 3 2 0 1\n3 2 1 1 2\n"
 
 def porter(goal, start=(0, 0, 0)):
     """The porter file with another goal, and perhaps another start."""
-    return file_of(replace(read(PORTER), tasks=list(zip(start, goal))))
+    return file_of(replace(heard(PORTER, 0), tasks=list(zip(start, goal))))
+
+
+def porter_crews(*goals):
+    """The porter file with a crew for each goal, all with its start and its seed."""
+    said = read(PORTER)
+    return replace(said, crews=[Crew(list(zip((0, 0, 0), goal)), 1) for goal in goals])
 
 
 def horse_breeder():
@@ -1862,28 +2072,28 @@ def worked_cases():
     in_order = bytes_of(0, 1, 3, 2)
     yield 1, "draw", (1, 3, room), (0, 282475249, 0), bytes_of(0, 2, 1)
     yield 2, "draw", (1, 5, room), (0, drawn(1, 5)[1], 0), bytes_of(3, 0, 4, 1, 2)
-    yield 3, "plan", (PORTER, rising, room), (0, 4, 0), in_order
-    yield 4, "plan", (PORTER, bytes_of(3, 0, 4, 1, 2), room), (0, 4, 0), bytes_of(1, 0, 3, 2)
-    yield 4, "plan_seeded", (PORTER, room), (0, 4, 0), bytes_of(1, 0, 3, 2)
-    yield 5, "plan", (porter((0, 0, 0)), rising, room), (0, 0, 0), b""
-    yield 6, "plan", (porter((0, 2, 1)), rising, room), (11, 2, 0), b""
-    yield 7, "plan", (porter((1, 2, 0)), rising, room), (11, 2, 2), b""
-    yield 8, "plan", (porter((1, 1, 1)), rising, room), (0, 3, 0), bytes_of(0, 1, 3)
-    yield 9, "plan", (porter((1, 0, 1), (0, 2, 0)), rising, room), (10, 1, 0), b""
-    yield 10, "plan", (PORTER, rising, room[:3]), (13, 4, 0), b""
-    yield 10, "plan", (PORTER, rising, room[:4]), (0, 4, 0), in_order
-    yield 11, "plan", (PORTER, bytes_of(0, 1, 1, 3, 4), room), (9, 2, 0), b""
-    yield 11, "plan", (PORTER, rising[:4], room), (9, 4, 1), b""
-    yield 12, "run", (PORTER, in_order, room), (0, 3, 0), bytes_of(1, 2, 1)
-    yield 12, "run", (PORTER, bytes_of(1, 3), room), (15, 1, 0), b""
-    yield 12, "run", (PORTER, bytes_of(0, 4), room), (16, 1, 0), b""
-    yield 12, "run", (PORTER, b"", room), (17, 0, 0), b""
-    yield 13, "plan", (two_wanting(1), bytes_of(0, 1), room), (12, 0, 0), b""
-    yield 13, "plan", (two_wanting(0), bytes_of(0, 1), room), (12, 0, 0), b""
-    yield 13, "plan", (two_wanting(1, more=True), bytes_of(0, 1, 2), room), (12, 1, 0), b""
-    yield 13, "plan", (two_wanting(0, more=True), bytes_of(0, 1, 2), room), (12, 1, 0), b""
-    yield 14, "plan", (coming_round(), bytes_of(0, 1), room), (10, 0, 255), b""
-    yield 15, "plan", (horse_breeder(), bytes(range(7)), room), (11, 5, 1), b""
+    yield 3, "plan", (PORTER, 0, rising, room), (0, 4, 0), in_order
+    yield 4, "plan", (PORTER, 0, bytes_of(3, 0, 4, 1, 2), room), (0, 4, 0), bytes_of(1, 0, 3, 2)
+    yield 4, "plan_seeded", (PORTER, 0, room), (0, 4, 0), bytes_of(1, 0, 3, 2)
+    yield 5, "plan", (porter((0, 0, 0)), 0, rising, room), (0, 0, 0), b""
+    yield 6, "plan", (porter((0, 2, 1)), 0, rising, room), (11, 2, 0), b""
+    yield 7, "plan", (porter((1, 2, 0)), 0, rising, room), (11, 2, 2), b""
+    yield 8, "plan", (porter((1, 1, 1)), 0, rising, room), (0, 3, 0), bytes_of(0, 1, 3)
+    yield 9, "plan", (porter((1, 0, 1), (0, 2, 0)), 0, rising, room), (10, 1, 0), b""
+    yield 10, "plan", (PORTER, 0, rising, room[:3]), (13, 4, 0), b""
+    yield 10, "plan", (PORTER, 0, rising, room[:4]), (0, 4, 0), in_order
+    yield 11, "plan", (PORTER, 0, bytes_of(0, 1, 1, 3, 4), room), (9, 2, 0), b""
+    yield 11, "plan", (PORTER, 0, rising[:4], room), (9, 4, 1), b""
+    yield 12, "run", (PORTER, 0, in_order, room), (0, 3, 0), bytes_of(1, 2, 1)
+    yield 12, "run", (PORTER, 0, bytes_of(1, 3), room), (15, 1, 0), b""
+    yield 12, "run", (PORTER, 0, bytes_of(0, 4), room), (16, 1, 0), b""
+    yield 12, "run", (PORTER, 0, b"", room), (17, 0, 0), b""
+    yield 13, "plan", (two_wanting(1), 0, bytes_of(0, 1), room), (12, 0, 0), b""
+    yield 13, "plan", (two_wanting(0), 0, bytes_of(0, 1), room), (12, 0, 0), b""
+    yield 13, "plan", (two_wanting(1, more=True), 0, bytes_of(0, 1, 2), room), (12, 1, 0), b""
+    yield 13, "plan", (two_wanting(0, more=True), 0, bytes_of(0, 1, 2), room), (12, 1, 0), b""
+    yield 14, "plan", (coming_round(), 0, bytes_of(0, 1), room), (10, 0, 255), b""
+    yield 15, "plan", (horse_breeder(), 0, bytes(range(7)), room), (11, 5, 1), b""
     yield 16, "check", (PORTER,), (0, 5, 3), b""
     yield 16, "check", (PORTER[:51] + bytes(4) + PORTER[55:],), (5, 50, 0), b""
     yield 16, "check", (PORTER[:55],), (1, 55, 0), b""
@@ -1896,13 +2106,14 @@ def worked_cases():
 
 
 def worked_writes():
-    """Writes worked by hand: the lists, the buffer's length, the three numbers. In hexadecimal: variables, actions, conditions
-    and tasks; before them the situation."""
+    """Writes worked by hand: the lists, the buffer's length, the three numbers. In hexadecimal: variables, actions, conditions,
+    crews and tasks; before them the situation."""
     variables, actions = "020302", "000001ff00 010001ff00 010102ff02 020001ff02 000100ff00"
     conditions, tasks = "0001 0201 0001 0101", "000001 010002 020001"
 
-    def porter_with(v=variables, a=actions, c=conditions, t=tasks, seed=1, situation=0):
-        return situation, v, a, c, t, seed
+    def porter_with(v=variables, a=actions, c=conditions, k=None, t=tasks, seed=1, situation=0):
+        many = (len(bytes.fromhex(t)) + 2) // 3
+        return situation, v, a, c, f"{many:02x}{seed:08x}" if k is None else k, t
 
     yield porter_with(), 56, (0, 56, 0)
     yield porter_with(), 60, (0, 56, 0)
@@ -1920,20 +2131,21 @@ def worked_writes():
         yield porter_with(seed=seed), 0, (5, 50, 0)
     # 3: where a record stands that may not come
     for situation, place in ((0, 0), (7, 2)):
-        yield (situation, "", "", "", "", 1), 9, (3, place, 0)
-        yield (situation, "", actions, conditions, tasks, 1), 9, (3, place, 0)
-        yield (situation, "", "", "0001", "", 1), 9, (3, place, 0)
-        yield (situation, "", "", "", tasks, 1), 9, (3, place, 0)
+        yield (situation, "", "", "", "", ""), 9, (3, place, 0)
+        yield (situation, "", "", "", "0000000001", ""), 9, (3, place, 0)
+        yield (situation, "", actions, conditions, "0300000001", tasks), 9, (3, place, 0)
+        yield (situation, "", "", "0001", "", ""), 9, (3, place, 0)
+        yield (situation, "", "", "", "", tasks), 9, (3, place, 0)
     yield porter_with(t=""), 99, (3, 38, 0)
     yield porter_with(t="000001 010002"), 99, (3, 46, 0)
     yield porter_with(t="000001 010002 020001 030001"), 99, (3, 50, 0)
     yield porter_with(t="000001 010002 020001 02"), 99, (3, 50, 0)
     # 4, 5, 6, 7
-    yield (0, "02" * 33, "", "", "", 1), 0, (4, 64, 0)
-    yield (1, "02" * 33, "", "", "", 1), 0, (4, 66, 0)
-    yield (0, "02" * 32 + "00", "", "", "", 1), 0, (4, 64, 0)
+    yield (0, "02" * 33, "", "", "", ""), 0, (4, 64, 0)
+    yield (1, "02" * 33, "", "", "", ""), 0, (4, 66, 0)
+    yield (0, "02" * 32 + "00", "", "", "", ""), 0, (4, 64, 0)
     yield porter_with(situation=8), 56, (5, 0, 0)
-    yield (255, "", "", "", "", 0), 0, (5, 0, 0)
+    yield (255, "", "", "", "", ""), 0, (5, 0, 0)
     yield porter_with(v="020102"), 56, (5, 2, 0)
     yield porter_with(v="021102"), 56, (5, 2, 0)
     yield porter_with(v="02"), 56, (5, 6, 0)
@@ -1970,11 +2182,41 @@ def worked_writes():
     yield porter_with(a=""), 56, (5, 6, 0)
     yield porter_with(t="000001 010002 0200"), 56, (5, 46, 0)
     yield porter_with(a=actions.replace("000100ff00", "000100ffff")), 56, (5, 38, 0)
+    # crews: they take their tasks in turn
+    yield porter_with(k="0300000001 037ffffffe", t=tasks + "000100 010000 020101"), 74, (0, 74, 0)
+    yield porter_with(k="0300000001 037ffffffe", t=tasks + "000100 010000 020101"), 73, (13, 74, 0)
+    yield porter_with(k="0300000001" * 8, t=tasks * 8), 182, (0, 182, 0)
+    yield porter_with(k="0300000001" * 9, t=tasks * 9), 182, (4, 181, 0)
+    yield porter_with(k="0300000001" * 9, t=tasks * 8), 182, (4, 181, 0)
+    yield porter_with(k="0300000001" * 8, t=tasks * 8 + "00"), 182, (4, 181, 0)  # tasks left over are a ninth crew's
+    yield porter_with(k="0300000001 0300000000", t=tasks * 2), 74, (5, 68, 0)
+    yield porter_with(k="0300000000 0300000001", t=tasks * 2), 74, (5, 50, 0)
+    yield porter_with(k="0300000001 0300000001", t=tasks + "000001 010003 020001"), 74, (5, 60, 0)
+    yield porter_with(k="0300000001 0200000001", t=tasks * 2), 74, (3, 64, 0)
+    yield porter_with(k="0300000001 0400000001", t=tasks * 2), 74, (3, 68, 0)
+    yield porter_with(k="0400000001 0200000001", t=tasks * 2), 74, (3, 50, 0)
+    yield porter_with(k="0200000001 0400000001", t=tasks * 2), 74, (3, 46, 0)
+    # no crew, a crew without tasks, crews that are cut, tasks that are missing, tasks that are left over
+    yield porter_with(k="", t=""), 99, (3, 38, 0)
+    yield porter_with(k="0000000001", t=""), 99, (3, 38, 0)
+    yield porter_with(k="03000000"), 99, (5, 50, 0)  # it takes all tasks, and its seed is out of range
+    yield porter_with(k="ff"), 99, (5, 50, 0)
+    yield porter_with(k="03", t=""), 99, (3, 38, 0)
+    yield porter_with(k=""), 99, (5, 50, 0)
+    yield porter_with(k="", t=tasks[:-2]), 99, (5, 46, 0)
+    yield porter_with(k="0300000001", t="000001"), 99, (5, 42, 0)
+    yield porter_with(k="0300000001", t=""), 99, (5, 38, 0)
+    yield porter_with(k="ff00000001"), 99, (3, 50, 0)
+    yield porter_with(k="0300000001 0300000001"), 99, (5, 56, 0)
+    yield porter_with(k="0300000001 03000000", t=tasks * 2), 99, (5, 68, 0)
+    yield porter_with(k="0300000001 03"), 99, (3, 56, 0)
+    yield porter_with(k="0300000001", t=tasks * 2), 99, (5, 68, 0)
+    yield porter_with(k="0300000001 0000000001"), 99, (3, 56, 0)
 
 
 def inputs_of_worked_write(lists, length):
-    situation, *digits, seed = lists
-    return (situation, *map(bytes.fromhex, digits), seed, b"\xaa" * length)
+    situation, *digits = lists
+    return (situation, *map(bytes.fromhex, digits), b"\xaa" * length)
 
 
 def test_worked_writes():
@@ -1988,9 +2230,9 @@ def test_worked_writes():
     assert write(*lists_of(read(PORTER)), b"\xaa" * 58) == ((0, 56, 0), PORTER + b"\xaa" * 2)
     crowded, seventeen = crowded_with_actions(), bytes([16] * 17)
     setters = bytes(byte for v in range(16) for q in range(16) for byte in (v, (q + 1) % 16, q, ALWAYS, 0))
-    assert file_of_lists(0, seventeen, setters, b"", b"", 1)[: len(crowded)] == crowded
+    assert file_of_lists(0, seventeen, setters, b"", b"", b"")[: len(crowded)] == crowded
     for actions, conditions, number in ((b"\x10\0\1\xff\0", b"", 4), (b"\0", b"", 4), (b"", b"\0\0", 4), (b"", b"", 3)):
-        given = write(0, seventeen, setters + actions, conditions, b"", 1, b"")[0]
+        given = write(0, seventeen, setters + actions, conditions, b"", b"", b"")[0]
         assert given == (number, 1058, 0), (actions, conditions, given)
     return f"{len(cases)} writes worked by hand: agreed"
 
@@ -2004,7 +2246,7 @@ def test_worked_cases():
         assert given == expected, f"case {case}: {name} answers {given} and not {expected}"
         met.add(case)
     assert met == set(range(1, 18))
-    assert set(straight_plans(read(PORTER), 1000)) == {(0, 1, 3, 2), (1, 0, 3, 2)}, "case 4: there is no third plan"
+    assert set(straight_plans(heard(PORTER, 0), 1000)) == {(0, 1, 3, 2), (1, 0, 3, 2)}, "case 4: there is no third plan"
     assert sorted(drawn(1, 256)[0]) == list(range(256))
     last = 1
     for _ in range(10000):
@@ -2013,6 +2255,7 @@ def test_worked_cases():
     assert drawn(7, 0) == ([], 7) and drawn(7, 1) == ([0], 7)
     assert len(PORTER) == 56 and check(b"") == ((1, 0, 0), b"")
     assert printed(PORTER) == PORTER_PRINTED
+    assert printed(file_of(porter_crews((1, 2, 1), (0, 2, 1), (0, 0, 0)))) == PORTER_PRINTED + "refused 11 2 0\nplan 0\n"
     assert printed(PORTER + bytes(30000)) == "refused 8 56 0\n"
     return "document 01's worked cases 1 to 17, the generator's check number and the porter's print: agreed"
 
@@ -2026,8 +2269,8 @@ def file_cases():
     crowd = "0102" * 32
     yield "", (1, 0, 0)
     yield "00", (2, 0, 0)
-    yield "09", (2, 0, 0)
-    for kind in ("02", "03", "04", "05", "06", "07"):
+    yield "0a", (2, 0, 0)
+    for kind in ("02", "03", "04", "05", "06", "07", "09"):
         yield kind, (3, 0, 0)  # cut, or an end: 3 comes before 1
     yield "01", (1, 0, 0)
     yield "0101", (5, 0, 0)
@@ -2114,6 +2357,37 @@ def file_cases():
     yield two + go + rest + "00", (21, 1, 0)  # .. and 8 after it
     yield two + go + "04000001 04010001 0500000000 06", (5, 16, 0)  # every fault of a record comes before it
     yield two + go + "04000001 04010001 0500000001", (1, 21, 0)
+    # crews: the next one behind a seed
+    crew = "04000001 0500000001"
+    begun = one + go + crew  # 15 bytes
+    yield begun + "09" + crew + "06", (0, 1, 1)
+    yield begun + "09 04000100 057ffffffe 06", (0, 1, 1)
+    yield begun + "09" + crew + "06 00", (8, 26, 0)
+    yield begun + "09" + crew, (1, 25, 0)
+    yield begun + "09", (1, 16, 0)
+    for kind in ("01", "02", "03", "05", "06", "07", "08", "09"):
+        yield begun + "09" + kind, (3, 16, 0)  # only a task may follow, whole or cut
+    yield begun + "09 04", (1, 16, 0)
+    yield begun + "09 0a", (2, 16, 0)
+    yield begun + "09 04010001", (5, 16, 0)  # not the next variable
+    yield begun + "09 04000201", (5, 16, 0)
+    yield begun + "09 04000001 06", (3, 20, 0)  # no seed
+    yield begun + "09 04000001 09", (3, 20, 0)
+    yield begun + "09 04000001 04000001", (3, 20, 0)  # a task too many
+    yield begun + "09 04000001 0500000000 06", (5, 20, 0)
+    yield begun + "09" + crew + crew, (3, 25, 0)  # nothing opens it
+    yield two + go + "04000001 04010001 0500000001 09 04000001 0500000001", (3, 26, 0)  # a task too few
+    yield two + go + "04000001 04010001 0500000001 09 04010001", (5, 22, 0)
+    for early, place in (("", 0), (one, 2), (one + go, 6), (one + go + "0701", 8), (one + go + "04000001", 10)):
+        yield early + "09", (3, place, 0)
+    yield begun + ("09" + crew) * 7 + "06", (0, 1, 1)
+    yield begun + ("09" + crew) * 7 + "09", (4, 85, 0)
+    yield begun + ("09" + crew) * 8 + "06", (4, 85, 0)
+    yield begun + ("09" + crew) * 7 + "09 09", (4, 85, 0)
+    yield begun + ("09" + crew) * 6 + "09 04000001 0500000000 09", (5, 80, 0)  # the eighth's fault comes first
+    yield one + go + go + crew + "09" + crew + "06", (7, 6, 0)
+    yield one + go + go + crew + "09 04000002", (5, 20, 0)
+    yield two + go + "04000001 04010001 0500000001 09" + rest, (21, 1, 0)
     yield crowd + "02000001 021f0001", (1, 72, 0)
     yield crowd + "01", (1, 64, 0)
     yield crowd + "0102", (4, 64, 0)
@@ -2137,7 +2411,8 @@ def test_file_cases():
     assert len(crowded) == 1058
     for more, number in ((b"\2\x10\0\1", 4), (b"\2\x11\0\1", 4), (b"\2\0\0\0", 4), (b"\2\0\0", 1), (b"\1\2", 3)):
         assert check(crowded + more)[0] == (number, 1058, 0), more
-    odd = bytes([9, 1, 2, 0, 6, 5, 0, 0, 0])
+    odd = bytes([10, 1, 2, 0, 6, 5, 0, 0, 0])
+    assert record_at(b"\x01\x09", 1) == ((0, 9, 2, 0, 2), b"")
     places = {
         0: (2, 0, 0, 0, 0),
         1: (0, 1, 2, 1, 3),
@@ -2203,7 +2478,7 @@ def test_breaks_of(study):
         assert end is None or where_it_breaks(study, v) == end, (study, v, end)
     broken = [(v, end) for v, end in enumerate(ends) if end is not None]
     if broken:
-        assert plan_seeded(file_of(study), b"")[0] == (10, *broken[0]), study
+        assert plan_seeded(file_of(study), 0, b"")[0] == (10, *broken[0]), study
         return "round" if broken[0][1] == CAME_ROUND else "goal" if broken[0][1] == study.goal(broken[0][0]) else "further back"
     return None
 
@@ -2212,7 +2487,7 @@ def test_runs_of(rng, study, plans):
     """Running answers 0 exactly for straight plans, and then the goal is the end state."""
     file, room = file_of(study), bytes(len(study.counts))
     for steps in [some_steps(rng, study) for _ in range(3)] + plans[:3]:
-        numbers, buffer = run(file, bytes(steps), room)
+        numbers, buffer = run(file, 0, bytes(steps), room)
         assert (numbers[0] == 0) == (tuple(steps) in plans), (study, steps)
         assert buffer == (room if numbers[0] else bytes(goal_state(study)))
 
@@ -2223,7 +2498,7 @@ def test_both_ways(seed, files):
     seen, breaks, several, skipped = Counter(), Counter(), 0, 0
     for _ in range(files):
         study = small_study(rng)
-        assert read(file_of(study)) == replace(study, ended=True), "a generator's study does not load"
+        assert heard(file_of(study), 0) == study, "a generator's study does not load"
         breaks[test_breaks_of(study)] += 1
         try:
             plans = straight_plans(study, 4000)
@@ -2254,13 +2529,13 @@ def test_both_ways(seed, files):
 ANSWERS_TO_MEET = {
     "record_at": {0, 1, 2},
     "check": set(range(9)) | {21},
-    "plan": set(range(14)) | {21},
-    "plan_seeded": set(range(14)) - {9} | {21},
-    "run": set(range(9)) | {13, 14, 15, 16, 17, 20, 21},
+    "plan": set(range(14)) | {21, 22},
+    "plan_seeded": set(range(14)) - {9} | {21, 22},
+    "run": set(range(9)) | {13, 14, 15, 16, 17, 20, 21, 22},
     "draw": {0, 13, 18, 19},
     "write": {0, 3, 4, 5, 6, 7, 13, 21},
-    "report": set(range(9)) | {13, 18, 19, 21},
-    "chart": set(range(9)) | {10, 11, 12, 14, 19, 21, 25, 26, 27, 28},
+    "report": set(range(9)) | {13, 18, 19, 21, 22},
+    "chart": set(range(9)) | {10, 11, 12, 14, 19, 21, 22, 25, 26, 27, 28},
 }
 
 
@@ -2323,7 +2598,7 @@ def worked_charts():
 
 
 def inputs_of_worked_chart(file, actions, pairs):
-    return file, bytes.fromhex(actions), bytes.fromhex(pairs)
+    return file, 0, bytes.fromhex(actions), bytes.fromhex(pairs)
 
 
 def test_worked_charts():
@@ -2339,8 +2614,9 @@ def test_charts_by_orders(seed, n):
     rng = random.Random(seed)
     seen, longer = Counter(), 0
     for _ in range(n):
-        _, (file, actions, data) = chart_on_small(rng)
-        study, pairs = read(file), pairs_in(data)
+        _, (file, crew, actions, data) = chart_on_small(rng)
+        roster, pairs = read(file), pairs_in(data)
+        study = study_of(roster, crew % len(roster.crews))
         numbers = judged_chart(study, list(actions), pairs, ACTIONS_TO_TRY + 1)
         longer += len(actions) > ACTIONS_TO_TRY + 1
         seen[numbers[0]] += 1
@@ -2352,18 +2628,18 @@ def test_charts_by_orders(seed, n):
 
 def test_reports():
     """The porter with 64 seeds: two plans, which differ in their first two steps."""
-    numbers, left = report(PORTER, 1, 64, b"\xaa" * 30)
+    numbers, left = report(PORTER, 0, 1, 64, b"\xaa" * 30)
     assert numbers == (0, 25, 0) and left[25:] == b"\xaa" * 5, (numbers, left)
     plans, *barred, different = left[:5]
     assert (plans, barred, different) == (64, [0, 0, 0], 2)
     at = [list(left[5 + 5 * position : 10 + 5 * position]) for position in range(4)]
     assert at[0][0] + at[0][1] == 64 and at[0][0] == at[1][1] and at[0][1] == at[1][0] and at[0][0] > 0 and at[0][1] > 0
     assert at[2] == [0, 0, 0, 64, 0] and at[3] == [0, 0, 64, 0, 0]
-    assert report(PORTER, 1, 64, bytes(24)) == ((13, 25, 0), bytes(24))
-    assert report(coming_round(), 7, 9, b"\xaa" * 6) == ((0, 5, 0), bytes([0, 9, 0, 0, 0, 0xAA]))
-    assert report(two_wanting(1), 7, 64, bytes(5)) == ((0, 5, 0), bytes([0, 0, 0, 64, 0]))
-    assert report(horse_breeder(), 1, 1, bytes(4)) == ((13, 5, 0), bytes(4))
-    assert report(porter((0, 0, 0)), 1, 64, bytes(5)) == ((0, 5, 0), bytes([64, 0, 0, 0, 1]))
+    assert report(PORTER, 0, 1, 64, bytes(24)) == ((13, 25, 0), bytes(24))
+    assert report(coming_round(), 0, 7, 9, b"\xaa" * 6) == ((0, 5, 0), bytes([0, 9, 0, 0, 0, 0xAA]))
+    assert report(two_wanting(1), 0, 7, 64, bytes(5)) == ((0, 5, 0), bytes([0, 0, 0, 64, 0]))
+    assert report(horse_breeder(), 0, 1, 1, bytes(4)) == ((13, 5, 0), bytes(4))
+    assert report(porter((0, 0, 0)), 0, 1, 64, bytes(5)) == ((0, 5, 0), bytes([64, 0, 0, 0, 1]))
     for first, count, expected in [
         (1, 0, (19, 0, 0)),
         (0, 65, (19, 65, 0)),
@@ -2374,9 +2650,49 @@ def test_reports():
         (LARGEST_SEED - 63, 64, (0, 25, 0)),
         (2**64 - 1, 64, (18, 2**64 - 1, 0)),
     ]:
-        assert report(PORTER, first, count, bytes(25))[0] == expected, (first, count)
-    assert report(PORTER[:55], 0, 0, b"")[0] == (1, 55, 0)
+        assert report(PORTER, 0, first, count, bytes(25))[0] == expected, (first, count)
+    assert report(PORTER[:55], 0, 0, 0, b"")[0] == (1, 55, 0)
     return "reports worked by hand: agreed"
+
+
+def answers_to(file, crew, lists):
+    """What each call that names a crew answers: some rank list, some steps, some chart."""
+    ranks, steps, pairs = lists
+    return [
+        plan(file, crew, ranks, bytes(256)),
+        plan(file, crew, ranks[1:], bytes(256)),
+        plan_seeded(file, crew, bytes(256)),
+        run(file, crew, steps, bytes(40)),
+        report(file, crew, 1, 2, bytes(5000)),
+        chart(file, crew, steps, pairs),
+    ]
+
+
+def test_crews(seed, files):
+    """A crew among others answers as it does alone and as it does where crews are exchanged; one that is not there gets 22 from
+    every call; a fault of any crew is the file's, at its place."""
+    rng = random.Random(seed)
+    many = Counter()
+    for _ in range(files):
+        study = small_study(rng)
+        roster, number = crewed(rng, study)
+        file, crews = file_of(roster), len(roster.crews)
+        lists = rank_list(rng, len(study.actions)), bytes(steps_that_run(rng, study)), bytes(rng.randrange(4) for _ in range(4))
+        alone = answers_to(file_of(study), 0, lists)
+        assert answers_to(file, number, lists) == alone, roster
+        other = rng.randrange(crews)
+        turned = replace(roster, crews=list(roster.crews))
+        turned.crews[number], turned.crews[other] = turned.crews[other], turned.crews[number]
+        assert answers_to(file_of(turned), other, lists) == alone, turned
+        for absent in (crews, 255, 2**64 - 1):
+            assert {numbers for numbers, _ in answers_to(file, absent, lists)} == {(22, absent, 0)}, roster
+        place = len(b"".join(records_of(replace(roster, crews=roster.crews[: other + 1]))[:-2]))
+        turned.crews = list(roster.crews)
+        turned.crews[other] = replace(roster.crews[other], seed=0)
+        assert {numbers for numbers, _ in answers_to(file_of(turned), rng.choice([0, 255]), lists)} == {(5, place, 0)}, turned
+        many[crews] += 1
+    assert set(many) == set(range(1, MOST_CREWS + 1)), many
+    return f"{files} files of one to eight crews, each crew as alone and where crews are exchanged: agreed"
 
 
 def test_calls(seed, n):
@@ -2427,17 +2743,18 @@ def test_limits(seed):
         one_action_each: (0, 32, 0),
     }
     for maker in dict.fromkeys(LARGE):
-        file = file_of(maker(rng))
+        roster, crew = crewed(rng, maker(rng), MOST_CREWS)
+        file = file_of(roster)
         assert check(file)[0][0] == 0, maker
-        numbers, buffer = plan_seeded(file, bytes(256))
+        numbers, buffer = plan_seeded(file, crew, bytes(256))
         assert numbers == answers.get(maker, numbers), (maker, numbers)
         if maker.__name__.startswith("longest"):
             assert len(file) == LONGEST_FILE, (maker, len(file))
         if numbers[0] == 0:
-            assert run(file, buffer[: numbers[1]], bytes(32))[0][0] == 0, maker
+            assert run(file, crew, buffer[: numbers[1]], bytes(32))[0][0] == 0, maker
     for maker, number in ((longest_without_walk, 10), (longest_off_walk, 11), (longest_with_ring, 12)):
         study = maker(rng)
-        numbers, _ = plan_seeded(file_of(study), bytes(256))
+        numbers, _ = plan_seeded(file_of(study), 0, bytes(256))
         assert numbers[0] == number, maker
         assert number != 10 or numbers[2] == study.goal(numbers[1]), maker
     return "studies at the limits: as their names say"
@@ -2452,6 +2769,7 @@ def self_test():
         (test_reports, ()),
         (test_worked_charts, ()),
         (test_charts_by_orders, (1, 2000)),
+        (test_crews, (1, 400)),
         (test_limits, (1,)),
         (test_both_ways, (1, 5000)),
         (test_calls, (1, 20000)),

@@ -34,6 +34,7 @@ FIRST_LINES = {
     "horse-breeder": "refused 11 5 1",
     "horse-breeder-fed": "plan 2",
     "hotel": "plan 20",
+    "hotel-crews": "plan 8",
     "night-porter": "plan 6",
     "courier": "plan 6",
     "no-walk": "refused 10 1 255",
@@ -53,16 +54,19 @@ FIRST_LINES = {
 REFUSED = ["courier-second-pass"]
 
 # The studies whose plans are stored in words too.
-IN_WORDS = ["porter", "hotel", "night-porter"]
+IN_WORDS = ["porter", "hotel", "night-porter", "hotel-crews"]
+
+# The studies with more than one crew, and the crews' names.
+CREWS = {"hotel-crews": ["housekeepers", "porters"]}
 
 # The studies of which what bin/variety prints, for 64 seeds from 1, is stored.
 VARIED = ["porter", "hotel"]
 
-# The charts, and the studies that they are of: what bin/chart prints of each is stored.
-CHARTED = {"porter": "porter", "hotel": "hotel", "hotel-short": "hotel"}
+# The charts, and the studies and crews that they are of: what bin/chart prints of each is stored.
+CHARTED = {"porter": ("porter", 0), "hotel": ("hotel", 0), "hotel-short": ("hotel", 0), "hotel-crews": ("hotel-crews", 1)}
 
 # The studies whose explanations are stored in words too: each kind of line is among them.
-WHY = ["porter", "night-porter", "no-walk", "cart-back", "wrong-badge", "doorman"]
+WHY = ["porter", "night-porter", "no-walk", "cart-back", "wrong-badge", "doorman", "hotel-crews"]
 
 # Of each kind of line but a step's and the first, what its numbers are and its words: actions i and j, a variable v and its values
 # p and q; n is no name.
@@ -120,6 +124,16 @@ MISTAKES = {
     HEAD + "  go: a x -> y\n  go: a y -> x\n" + TAIL: (6, "already"),
     HEAD + "  go: a x -> y when " + ", ".join(["b = x"] * 256) + "\n" + TAIL: (5, "a byte"),
     HEAD + TAIL + "tasks\n": (9, "comes after"),
+    HEAD + "crew\n": (5, "crew's name"),
+    HEAD + "crew one\ncrew two\n": (6, "comes after"),
+    HEAD + "crew one\n  a x -> y\n": (6, "begin with the line 'tasks'"),
+    HEAD + "crew one\n" + TAIL + "crew one\n": (10, "crew 'one' already"),
+    HEAD + TAIL + "crew 0\n": (9, "crew '0' already"),
+    HEAD + TAIL + "crew two\n": (9, "no seed"),
+    HEAD + TAIL + "crew two\n" + TAIL.replace("seed 5\n", ""): (12, "no seed"),
+    HEAD + TAIL + "crew two\n" + TAIL.replace("a x -> y", "a x -> z"): (11, "no value of a 'z'"),
+    HEAD + TAIL.replace("seed 5\n", "crew two\n"): (8, "comes after"),
+    HEAD + TAIL + "crew two: x, y\n": (9, "after the seed"),
     HEAD + TAIL + "  a x -> y\n": (9, "after the seed"),
     HEAD + TAIL.replace("seed 5\n", ""): (7, "no seed"),
     HEAD + TAIL.replace("5", "4294967296"): (8, "four bytes"),
@@ -156,6 +170,11 @@ REFUSALS = {
     HEAD + TAIL.replace("  a x -> y\n", ""): (6, (5, 4, 0), "next variable's"),
     HEAD + TAIL.replace("  b x -> z\n", "  a y -> x\n"): (7, (5, 8, 0), "twice"),
     HEAD + GO + TAIL.replace("5", "0"): (9, (5, 19, 0), "the seed is 0"),
+    HEAD + GO + TAIL + "crew two\n" + TAIL.replace("5", "0"): (14, (5, 33, 0), "the seed is 0"),
+    HEAD + GO + TAIL + "crew two\n" + TAIL.replace("  b x -> z\n", ""): (13, (3, 29, 0), "no task"),
+    HEAD + GO + TAIL + "crew two\nseed 1\n": (11, (3, 25, 0), "no task"),
+    HEAD + GO + TAIL + "crew two\n" + TAIL.replace("  a x -> y\n", ""): (12, (5, 25, 0), "next variable's"),
+    HEAD + GO + TAIL + "".join(f"crew c{c}\n" + TAIL for c in range(8)): (45, (4, 122, 0), "too many crews"),
     HEAD + TAIL.replace("5", "2147483647"): (8, (5, 12, 0), "too large"),
     HEAD + GO + "  stay: b x -> x\n" + TAIL: (6, (6, 11, 0), "are the same"),
     HEAD + "  go: a x -> y when a = x\n" + TAIL: (5, (6, 8, 0), "own variable"),
@@ -178,6 +197,7 @@ PORTER_NAMES = {
     "values": [["desk", "worn"], ["store", "lobby", "landing"], ["none", "booked"]],
     "actions": ["take-pass", "fetch-cart", "ride-up", "book-ride", "return-pass"],
     "situations": [str(number) for number in range(8)],
+    "crews": ["0"],
 }
 
 passed = failed = 0
@@ -226,7 +246,7 @@ def stored(name, suffix):
 
 def actions_in_words(name):
     """The actions as the table has them, without conditions and situations. They are taken from its lines."""
-    part = stored(name, ".study").decode().split("\nactions\n")[1].split("\ntasks\n")[0]
+    part = re.split(r"\n(?:crew .*|tasks)\n", stored(name, ".study").decode().split("\nactions\n")[1])[0]
     lines = [line.split(" when ")[0].split(" during ")[0] for line in part.splitlines() if line.strip()]
     return [" ".join(line.split()) for line in lines]
 
@@ -234,7 +254,7 @@ def actions_in_words(name):
 def variety(name):
     """What bin/variety prints of a study that has several plans, by the oracle's report."""
     actions = [action.split(": ") for action in actions_in_words(name)]
-    (_, length, _), figures = oracle.report(stored(name, ".bin"), 1, 64, bytes(65541))
+    (_, length, _), figures = oracle.report(stored(name, ".bin"), 0, 1, 64, bytes(65541))
     positions = (length - 5) // len(actions)
     lines = [f"{name}.study, 64 seeds from 1: {figures[0]} plans of {positions} steps, {figures[4]} different"]
     width = max(len(action) for action, _ in actions)
@@ -248,11 +268,15 @@ def variety(name):
 
 
 def in_words(name):
-    """What bin/plan --names prints for a study that has a plan: behind each step its action as the table has it, without the
-    conditions. It is taken from the table's lines and shares nothing with bin/make-study."""
-    actions = actions_in_words(name)
-    first, *steps = stored(name, ".out").decode().splitlines()
-    return "".join(f"{line}\n" for line in [first] + [f"{step}  {actions[int(step.split()[1])]}" for step in steps])
+    """What bin/plan --names prints for a study that has plans: behind each step its action as the table has it, without the
+    conditions, and behind each plan's length the crew, where there is more than one. It is taken from the table's lines and
+    shares nothing with bin/make-study."""
+    actions, crews = actions_in_words(name), iter(CREWS.get(name, []))
+    text = ""
+    for line in stored(name, ".out").decode().splitlines():
+        said = next(crews, "") if line.startswith("plan") else actions[int(line.split()[1])]
+        text += f"{line}  {said}".rstrip() + "\n"
+    return text
 
 
 def named(name, letters, numbers):
@@ -274,6 +298,8 @@ def line_in_words(name, line):
         (numbers if word.isdecimal() else words).append(word)
     if words == ["plan"]:
         return line
+    if words == ["crew"]:
+        return f"{line}  {CREWS[name][int(numbers[0])]}"
     if not words:
         return f"{line}  {actions_in_words(name)[int(numbers[1])]}"
     if words == ["refused"]:
@@ -297,7 +323,7 @@ def chart_lines(name):
 
 def charted(name):
     """What bin/chart prints of a chart that is accepted or lacks an order, by the oracle; nothing is shared with bin/chart."""
-    study = CHARTED[name]
+    study, crew = CHARTED[name]
     numbers = {action.split(":")[0]: number for number, action in enumerate(actions_in_words(study))}
     first_lines, pairs = {}, []
     for number, chain in chart_lines(name).items():
@@ -305,7 +331,7 @@ def charted(name):
             first_lines.setdefault(action, number)
         pairs += zip(chain, chain[1:])
     lent = [bytes(numbers[action] for action in first_lines), bytes(numbers[action] for pair in pairs for action in pair)]
-    (answer, *more), _ = oracle.chart(stored(study, ".bin"), *lent)
+    (answer, *more), _ = oracle.chart(stored(study, ".bin"), crew, *lent)
     if answer == 0:
         return "chart {} {}  accepted: every order that keeps these {} pairs is a straight plan\n".format(*more, len(pairs))
     assert answer == 28, f"{name}.chart is refused with {answer}"
@@ -328,7 +354,7 @@ def check_refused(name):
 
 def check_courier():
     """The slip: the courier's table with one variable and its task more, which nobody uses."""
-    courier = oracle.read(stored("courier", ".bin"))
+    courier = oracle.heard(stored("courier", ".bin"), 0)
     slip = oracle.replace(courier, counts=[*courier.counts, 2], tasks=[*courier.tasks, (0, 0)])
     expect(oracle.check(oracle.file_of(slip))[0] == (21, 3, 0), "the courier's slip is not told")
     lines = stored("courier-second-pass", ".study").decode().splitlines()
@@ -382,7 +408,7 @@ def check_charted(name):
 def check_charts():
     """What the charts are there for: the partner's has fewer pairs than the study has direct orders, and the short one lacks a
     single order, by rule (c), of two actions of different variables of which neither sets what the other wants."""
-    hotel = oracle.read(stored("hotel", ".bin"))
+    hotel = oracle.heard(stored("hotel", ".bin"), 0)
     direct = oracle.comes_before(hotel, [oracle.walk_of(hotel, v) for v in range(len(hotel.counts))])
     chains = {name: sum(len(chain) - 1 for chain in chart_lines(name).values()) for name in CHARTED}
     expect((len(direct), chains["hotel"], chains["hotel-short"]) == (45, 22, 21), f"{len(direct)} direct orders, and pairs {chains}")
@@ -390,11 +416,12 @@ def check_charts():
     one, other = (hotel.actions[int(number)] for number in (first, second))
     expect(one.variable != other.variable and (one.variable, one.post) not in other.conditions, "the order that lacks is (a) or (b)")
     expect((other.variable, other.pre) in one.conditions, "the order that lacks is not (c)")
-    porter = oracle.read(oracle.PORTER)
+    porter = oracle.heard(oracle.PORTER, 0)
     own = oracle.comes_before(porter, [oracle.walk_of(porter, v) for v in range(len(porter.counts))])
     data = (ROOT / "crates" / "vet" / "stdin").read_bytes()
-    expect(data[:8] == bytes([0, 4, 0, 10, 0, 1, 2, 3]) and data[18:] == oracle.PORTER, "crates/vet/stdin is no chart of the porter")
-    expect({*oracle.pairs_in(data[8:18])} == {*own}, "crates/vet/stdin does not have the porter's own orders")
+    head = bytes([0, 4, 0, 10, 0, 0, 0, 1, 2, 3])
+    expect(data[:10] == head and data[20:] == oracle.PORTER, "crates/vet/stdin is no chart of the porter")
+    expect({*oracle.pairs_in(data[10:20])} == {*own}, "crates/vet/stdin does not have the porter's own orders")
     expect((ROOT / "crates" / "vet" / "stdout").read_text() == "chart 4 5\n", "crates/vet/stdout")
 
 
@@ -414,7 +441,9 @@ def check_particulars():
     expect(stored("porter", ".out").decode() == oracle.PORTER_PRINTED, "porter.out is not what document 01 prints")
     expect(stored("horse-breeder", ".bin") == oracle.horse_breeder(), "horse-breeder.bin is not source 004's Table 1")
     expect(len(stored("longest", ".bin")) == oracle.LONGEST_FILE, "longest.bin is not the longest")
-    hotel = oracle.read(stored("hotel", ".bin"))
+    plans = [line for line in stored("longest", ".out").decode().splitlines() if line.startswith("plan")]
+    expect(plans == [f"plan {steps}" for steps in (256, *range(1, 8))], f"the longest study's crews have {plans}")
+    hotel = oracle.heard(stored("hotel", ".bin"), 0)
     plans = oracle.straight_plans(hotel, 100000)
     expect(len(plans) == 1416, f"the hotel has {len(plans)} straight plans and not 1,416")
     ranks, _ = oracle.drawn(hotel.seed, len(hotel.actions))
@@ -423,6 +452,25 @@ def check_particulars():
     expect(steps == list(first), "hotel.out is not the first of all straight plans by the drawn ranks")
     firsts = {oracle.first_in_dictionary_order(plans, oracle.drawn(seed, len(hotel.actions))[0]) for seed in range(1, 21)}
     expect(len(firsts) > 10, f"20 seeds give the hotel {len(firsts)} plans only")
+
+
+def check_crews():
+    """Two crews of one table: each has a plan of its own, with actions that the other's has not, and each alone has the same."""
+    data = stored("hotel-crews", ".bin")
+    roster = oracle.read(data)
+    expect(len(roster.crews) == 2, "the hotel has not two crews")
+    studies = [oracle.study_of(roster, crew) for crew in range(2)]
+    plans = [oracle.plan_seeded(data, crew, bytes(16)) for crew in range(2)]
+    expect([numbers for numbers, _ in plans] == [(0, 8, 0)] * 2, f"the crews' plans: {plans}")
+    housekeepers, porters = (set(plan[:8]) for _, plan in plans)
+    expect(housekeepers - porters and porters - housekeepers and housekeepers & porters, "the crews' plans do not differ and share")
+    many = [len(oracle.straight_plans(study, 100000)) for study in studies]
+    expect(many == [9, 49], f"the crews have {many} straight plans")
+    for study, plan in zip(studies, plans):
+        expect(oracle.plan_seeded(oracle.file_of(study), 0, bytes(16)) == plan, "a crew alone has another plan")
+    chart = chart_lines("hotel-crews").values()
+    direct = oracle.comes_before(studies[1], [oracle.walk_of(studies[1], v) for v in range(len(studies[1].counts))])
+    expect(sum(len(chain) - 1 for chain in chart) < len(direct), "the porters' chart has as many pairs as direct orders")
 
 
 def check_explanations():
@@ -438,11 +486,11 @@ def check_explanations():
     rings = {name: [line.split()[1:] for line in stored(name, ".explained").decode().splitlines()[1:]] for name in RINGS}
     for name, rules in RINGS.items():
         expect([rule for rule, *_ in rings[name]] == rules, f"the ring of {name} is {rings[name]}")
-    lowest = min(explainer.stuck(oracle.read(stored("linen-waits", ".bin"))))
+    lowest = min(explainer.stuck(oracle.heard(stored("linen-waits", ".bin"), 0)))
     expect(str(lowest) not in [one for _, one, *_ in rings["linen-waits"]], "the ring of linen-waits has no tail")
     lines = [line for name in WHY for line in stored(name, ".explained").decode().splitlines()]
     kinds = {" ".join(word for word in line.split() if not word.isdecimal()) for line in lines}
-    expect(kinds == {*LINES_IN_WORDS, "plan", "refused", ""}, f"the explanations in words have the lines {sorted(kinds)}")
+    expect(kinds == {*LINES_IN_WORDS, "plan", "refused", "crew", ""}, f"the explanations in words have the lines {sorted(kinds)}")
     example = ROOT / "crates" / "explain"
     expect((example / "stdin").read_bytes() == oracle.PORTER, "crates/explain/stdin is not the porter")
     expect((example / "stdout").read_bytes() == stored("porter", ".explained"), "crates/explain/stdout is not its explanation")
@@ -455,7 +503,7 @@ def check_pages():
         expect(shown == [(name, why(name)) for name in names], f"{page} does not show what bin/explain prints of {names}")
     for page, names in {"README.md": ["hotel-short"], "docs/CHARTS.md": ["porter", "hotel", "hotel-short"]}.items():
         shown = re.findall(r"```\n\$ bin/chart studies/(\S+)\.study studies/(\S+)\.chart\n(.*?)```", (ROOT / page).read_text(), re.DOTALL)
-        wanted = [(CHARTED[name], name, charted(name)) for name in names]
+        wanted = [(CHARTED[name][0], name, charted(name)) for name in names]
         expect(shown == wanted, f"{page} does not show what bin/chart prints of {names}")
 
 
@@ -464,7 +512,7 @@ def check_night_porter():
     table = STUDIES / "night-porter.study"
     by_night, by_day = stored("night-porter", ".bin"), command(table, "--situation", "day", "-o", "-").stdout
     expect(by_night == b"\x08\x01" + by_day, "by day and by night more differs than the situation")
-    steps = [oracle.plan_seeded(data, bytes(16)) for data in (by_night, by_day)]
+    steps = [oracle.plan_seeded(data, 0, bytes(16)) for data in (by_night, by_day)]
     expect([numbers for numbers, _ in steps] == [(0, 6, 0)] * 2, f"the night porter: {steps}")
     night, day = (set(plan[:6]) for _, plan in steps)
     expect((night - day, day - night) == ({4}, {3}), "the cart is not loaded from the store by night, at the dock by day")
@@ -498,39 +546,54 @@ def check_refusals(make_study):
         expect(told, f"line {line}, refused {numbers}, '{word}': {said!r} is said of {text[-300:]!r}")
 
 
-def check_refused_lines(make_study):
-    """Of tables with a fault somewhere, the line that is told is that of the record where the oracle finds the fault."""
-    rng = random.Random(2)
-    told = 0
-    while told < 40:
-        faulty = oracle.small_study(rng)
+def faulty_table(make_study, rng):
+    """A table with a fault somewhere, and the study that it says."""
+    while True:
+        faulty = oracle.small_roster(rng)
         oracle.give_named_fault(rng, faulty)
         try:
             text = make_study.table_of(make_study.study_of_bytes(oracle.file_of(faulty)))
-            study = make_study.study_of_table(text, "T")
+            return text, make_study.study_of_table(text, "T")
         except make_study.Mistake:
             continue
+
+
+def line_of_record(text, study, before, kind):
+    """The line of the record of a kind that comes behind so many of each."""
+    lines = text.splitlines()
+    crew = study.crews[before[oracle.CREW]] if before[oracle.CREW] < len(study.crews) else None
+    if kind == oracle.VARIABLE:
+        return 2 + before[oracle.VARIABLE] + before[oracle.SITUATION]
+    if kind in (oracle.ACTION, oracle.CONDITION):
+        return 3 + before[oracle.VARIABLE] + before[oracle.ACTION] - (kind == oracle.CONDITION) + before[oracle.SITUATION]
+    if kind == oracle.CREW:
+        return 1 + lines.index(f"crew {1 + before[oracle.CREW]}")
+    seeds = [number for number, line in enumerate(lines, 1) if line.startswith("seed ")]
+    if kind == oracle.SEED:
+        return seeds[before[oracle.SEED]]
+    return crew.tasks[before[oracle.TASK] - sum(len(other.tasks) for other in study.crews[: before[oracle.CREW]])].line
+
+
+def check_refused_lines(make_study):
+    """Of tables with a fault somewhere, the line that is told is that of the record where the oracle finds the fault."""
+    rng = random.Random(2)
+    told = Counter()
+    while sum(told.values()) < 60:
+        text, study = faulty_table(make_study, rng)
         situation, *lists = map(bytes, make_study.lists_of(make_study.entries_of(study)))
-        lists = situation[0], *lists, study.seed
-        numbers, _ = oracle.write(*lists, bytes(1000))
+        numbers, _ = oracle.write(situation[0], *lists, bytes(2000))
         if numbers[0] == 0:
             continue
-        file, before, at = oracle.file_of_lists(*lists), Counter(), 0
+        file, before, at = oracle.file_of_lists(situation[0], *lists), Counter(), 0
         place = numbers[1] if numbers[0] != 21 else 2 * numbers[1] + 2 * (file[0] == oracle.SITUATION)
         while at < place:
             before[file[at]] += 1
             at = oracle.record_at(file, at)[0][4]
         said = told_of(make_study, text)
-        line = text.splitlines().index("seed %d" % study.seed)
-        if file[at] == oracle.VARIABLE:
-            line = 1 + before[oracle.VARIABLE] + before[oracle.SITUATION]
-        elif file[at] in (oracle.ACTION, oracle.CONDITION):
-            line = 2 + before[oracle.VARIABLE] + before[oracle.ACTION] - (file[at] == oracle.CONDITION)
-            line += before[oracle.SITUATION]
-        elif file[at] == oracle.TASK:
-            line = study.tasks[before[oracle.TASK]].line - 1
-        expect(str(said).startswith("T:%d: refused %d %d %d: " % (line + 1, *numbers)), f"{numbers}: {said!r} of {text!r}")
-        told += 1
+        line = line_of_record(text, study, before, file[at])
+        expect(str(said).startswith("T:%d: refused %d %d %d: " % (line, *numbers)), f"{numbers}: {said!r} of {text!r}")
+        told[before[oracle.CREW] > 0] += 1
+    expect(all(told.values()) and len(told) == 2, f"faults in the first crew and in later ones: {told}")
 
 
 def check_order(make_study):
@@ -547,7 +610,7 @@ def check_order(make_study):
 def check_shows(make_study):
     """What --show prints makes the same bytes again. Of a file that does not load it prints a table too, where there is one."""
     rng = random.Random(1)
-    files = [stored(name, ".bin") for name in FIRST_LINES] + [oracle.file_of(oracle.small_study(rng)) for _ in range(40)]
+    files = [stored(name, ".bin") for name in FIRST_LINES] + [oracle.file_of(oracle.small_roster(rng)) for _ in range(40)]
     for data in files:
         same = told_of(make_study, make_study.table_of(make_study.study_of_bytes(data))) == data
         expect(same, f"--show of {data[:100].hex()} makes other bytes")
@@ -603,6 +666,7 @@ def main():
     attempt(check_charts)
     attempt(check_folder)
     attempt(check_particulars)
+    attempt(check_crews)
     attempt(check_explanations)
     attempt(check_pages)
     attempt(check_night_porter)

@@ -2,10 +2,12 @@
 
 from dataclasses import dataclass, field
 
-VARIABLE, ACTION, CONDITION, TASK, SEED, END, SITUATIONS, SITUATION = range(1, 9)
-BODY_LENGTHS = {VARIABLE: 1, ACTION: 3, CONDITION: 2, TASK: 3, SEED: 4, END: 0, SITUATIONS: 1, SITUATION: 1}
+VARIABLE, ACTION, CONDITION, TASK, SEED, END, SITUATIONS, SITUATION, CREW = range(1, 10)
+BODY_LENGTHS = {VARIABLE: 1, ACTION: 3, CONDITION: 2, TASK: 3, SEED: 4, END: 0, SITUATIONS: 1, SITUATION: 1, CREW: 0}
 MOST_VARIABLES = 32
 MOST_ACTIONS = 256
+MOST_CREWS = 8
+LONGEST_FILE = 26482
 LARGEST_SEED = 2147483646
 MOST_SITUATION = 7
 ALL_EIGHT = 255
@@ -27,12 +29,17 @@ class Action:
 
 
 @dataclass
-class Study:
-    counts: list = field(default_factory=list)  # by variable: how many values
-    actions: list = field(default_factory=list)
+class Crew:
     starts: list = field(default_factory=list)  # by variable
     goals: list = field(default_factory=list)
     seed: int = 0
+
+
+@dataclass
+class Study:
+    counts: list = field(default_factory=list)  # by variable: how many values
+    actions: list = field(default_factory=list)
+    crews: list = field(default_factory=lambda: [Crew()])
     situation: int = 0
 
     def in_force(self, action):
@@ -81,8 +88,10 @@ def kinds_allowed(study, last):
     if last == SITUATIONS:
         return {ACTION, TASK}
     if last == TASK:
-        return {TASK} if len(study.starts) < len(study.counts) else {SEED}
-    return {END}
+        return {TASK} if len(study.crews[-1].starts) < len(study.counts) else {SEED}
+    if last == CREW:
+        return {TASK}
+    return {CREW, END}
 
 
 def has_value(study, variable, value):
@@ -123,12 +132,13 @@ def take_condition(study, variable, value):
 
 
 def take_task(study, variable, start, goal):
-    if variable != len(study.starts):
+    crew = study.crews[-1]
+    if variable != len(crew.starts):
         return 5
     if not has_value(study, variable, start) or not has_value(study, variable, goal):
         return 5
-    study.starts.append(start)
-    study.goals.append(goal)
+    crew.starts.append(start)
+    crew.goals.append(goal)
     return 0
 
 
@@ -136,7 +146,7 @@ def take_seed(study, *digits):
     number = int.from_bytes(digits, "big")
     if not 1 <= number <= LARGEST_SEED:
         return 5
-    study.seed = number
+    study.crews[-1].seed = number
     return 0
 
 
@@ -160,6 +170,13 @@ def take_situation(study, number):
     return 0
 
 
+def take_crew(study):
+    if len(study.crews) == MOST_CREWS:
+        return 4
+    study.crews.append(Crew())
+    return 0
+
+
 TAKE = {
     VARIABLE: take_variable,
     ACTION: take_action,
@@ -169,6 +186,7 @@ TAKE = {
     END: take_end,
     SITUATIONS: take_situations,
     SITUATION: take_situation,
+    CREW: take_crew,
 }
 
 
@@ -266,11 +284,18 @@ def situation_record(number):
     return bytes([SITUATION, number]) if number else b""
 
 
+def crew_record():
+    return bytes([CREW])
+
+
+def crew_records(crew):
+    return b"".join(task_record(v, p, q) for v, (p, q) in enumerate(zip(crew.starts, crew.goals))) + seed_record(crew.seed)
+
+
 def written(study):
     """The file that says this study."""
     data = situation_record(study.situation) + b"".join(variable_record(count) for count in study.counts)
     for a in study.actions:
         data += action_record(a.variable, a.pre, a.post)
         data += b"".join(condition_record(*c) for c in a.conditions) + situations_record(a.situations)
-    data += b"".join(task_record(v, p, q) for v, (p, q) in enumerate(zip(study.starts, study.goals)))
-    return data + seed_record(study.seed) + end_record()
+    return data + crew_record().join(map(crew_records, study.crews)) + end_record()

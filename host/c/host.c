@@ -21,7 +21,7 @@ static const uint8_t porter[] = {
 
 int main(void) {
   uint8_t plan[256];
-  marrowkite_answer answer = marrowkite_plan_seeded(porter, sizeof porter, plan, sizeof plan);
+  marrowkite_answer answer = marrowkite_plan_seeded(porter, sizeof porter, 0, plan, sizeof plan); /* for crew 0, the only one */
   if (answer.number != 0) {
     printf("refused %lu %lu %lu\n", answer.number, answer.first, answer.second);
     return 1;

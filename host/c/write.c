@@ -18,6 +18,10 @@ static const uint8_t conditions[] = {
     0, 1, 1, 1, /* to book the ride: the pass is worn, the cart in the lobby */
 };
 
+static const uint8_t crews[] = {
+    3, 0, 0, 0, 1, /* one crew: three tasks, and seed 1 */
+};
+
 static const uint8_t tasks[] = {
     0, 0, 1, /* pass: from the desk to worn */
     1, 0, 2, /* cart: from the store to the landing */
@@ -30,14 +34,13 @@ static int refused(const char *call, marrowkite_answer answer) {
 }
 
 int main(void) {
-  uint8_t file[25544], plan[256];
-  uint32_t seed = 1;
+  uint8_t file[26482], plan[256];
   uint8_t situation = 0; /* 0: no record of it is written */
   marrowkite_answer written =
       marrowkite_write(situation, variables, sizeof variables, actions, sizeof actions, conditions, sizeof conditions,
-                       tasks, sizeof tasks, seed, file, sizeof file);
+                       crews, sizeof crews, tasks, sizeof tasks, file, sizeof file);
   if (written.number != 0) return refused("write", written);
-  marrowkite_answer planned = marrowkite_plan_seeded(file, written.first, plan, sizeof plan);
+  marrowkite_answer planned = marrowkite_plan_seeded(file, written.first, 0, plan, sizeof plan);
   if (planned.number != 0) return refused("plan", planned);
   printf("written %lu, plan", written.first);
   for (uint64_t step = 0; step < planned.first; step++) printf(" %d", plan[step]);

@@ -35,6 +35,7 @@ mod exported {
         pub fn marrowkite_plan(
             file: *const u8,
             file_len: usize,
+            crew: u64,
             ranks: *const u8,
             ranks_len: usize,
             plan: *mut u8,
@@ -43,12 +44,14 @@ mod exported {
         pub fn marrowkite_plan_seeded(
             file: *const u8,
             file_len: usize,
+            crew: u64,
             plan: *mut u8,
             plan_len: usize,
         ) -> Answer;
         pub fn marrowkite_run(
             file: *const u8,
             file_len: usize,
+            crew: u64,
             plan: *const u8,
             plan_len: usize,
             state: *mut u8,
@@ -59,6 +62,7 @@ mod exported {
         pub fn marrowkite_report(
             file: *const u8,
             file_len: usize,
+            crew: u64,
             first: u64,
             n: u64,
             report: *mut u8,
@@ -67,6 +71,7 @@ mod exported {
         pub fn marrowkite_chart(
             file: *const u8,
             file_len: usize,
+            crew: u64,
             actions: *const u8,
             actions_len: usize,
             pairs: *const u8,
@@ -80,9 +85,10 @@ mod exported {
             actions_len: usize,
             conditions: *const u8,
             conditions_len: usize,
+            crews: *const u8,
+            crews_len: usize,
             tasks: *const u8,
             tasks_len: usize,
-            seed: u32,
             file: *mut u8,
             file_len: usize,
         ) -> Answer;
@@ -95,13 +101,15 @@ pub fn check(file: &[u8]) -> Answer {
     unsafe { exported::marrowkite_check(file.as_ptr(), file.len()) }
 }
 
-/// Plans with a rank list: 1 to 8 and 21, then 9, 10, 11, 12, 13. Done: the plan is `plan[..first]`. With 10, first is the lowest
-/// variable that has no walk, and second the value of it that no action in force sets, or 255 where the trace comes round.
-pub fn plan(file: &[u8], ranks: &[u8], plan: &mut [u8]) -> Answer {
+/// Plans for a crew with a rank list: 1 to 8 and 21, then 22, 9, 10, 11, 12, 13. Done: the plan is `plan[..first]`. With 22, first is
+/// the crew, which is not there. With 10, first is the lowest variable that has no walk, and second the value of it that no action
+/// in force sets, or 255 where the trace comes round.
+pub fn plan(file: &[u8], crew: u64, ranks: &[u8], plan: &mut [u8]) -> Answer {
     unsafe {
         exported::marrowkite_plan(
             file.as_ptr(),
             file.len(),
+            crew,
             ranks.as_ptr(),
             ranks.len(),
             plan.as_mut_ptr(),
@@ -110,19 +118,27 @@ pub fn plan(file: &[u8], ranks: &[u8], plan: &mut [u8]) -> Answer {
     }
 }
 
-/// Plans with the rank list that the file's seed draws: as `plan`, without 9.
-pub fn plan_seeded(file: &[u8], plan: &mut [u8]) -> Answer {
+/// Plans for a crew with the rank list that its seed draws: as `plan`, without 9.
+pub fn plan_seeded(file: &[u8], crew: u64, plan: &mut [u8]) -> Answer {
     unsafe {
-        exported::marrowkite_plan_seeded(file.as_ptr(), file.len(), plan.as_mut_ptr(), plan.len())
+        exported::marrowkite_plan_seeded(
+            file.as_ptr(),
+            file.len(),
+            crew,
+            plan.as_mut_ptr(),
+            plan.len(),
+        )
     }
 }
 
-/// Runs a plan: 1 to 8 and 21, then 13, then step by step 14, 20, 15, 16, then 17. Done: the end state is `state[..first]`.
-pub fn run(file: &[u8], plan: &[u8], state: &mut [u8]) -> Answer {
+/// Runs a plan of a crew: 1 to 8 and 21, then 22, 13, then step by step 14, 20, 15, 16, then 17. Done: the end state is
+/// `state[..first]`.
+pub fn run(file: &[u8], crew: u64, plan: &[u8], state: &mut [u8]) -> Answer {
     unsafe {
         exported::marrowkite_run(
             file.as_ptr(),
             file.len(),
+            crew,
             plan.as_ptr(),
             plan.len(),
             state.as_mut_ptr(),
@@ -141,16 +157,16 @@ pub fn record_at(file: &[u8], at: u64) -> Record {
     unsafe { exported::marrowkite_record_at(file.as_ptr(), file.len(), at) }
 }
 
-/// Writes the file that a situation, lists and a seed stand for: 3 to 7 and 21, then 13. An entry has one byte in `variables`, five in
-/// `actions`, two in `conditions`, three in `tasks`; situation 0 and a set of 255 are not written. Done: the file is
-/// `file[..first]`.
+/// Writes the file that a situation and lists stand for: 3 to 7 and 21, then 13. An entry has one byte in `variables`, five in
+/// `actions`, two in `conditions`, five in `crews` (how many tasks, then the seed, most significant first), three in `tasks`;
+/// situation 0 and a set of 255 are not written. Done: the file is `file[..first]`.
 pub fn write(
     situation: u8,
     variables: &[u8],
     actions: &[u8],
     conditions: &[u8],
+    crews: &[u8],
     tasks: &[u8],
-    seed: u32,
     file: &mut [u8],
 ) -> Answer {
     unsafe {
@@ -162,23 +178,25 @@ pub fn write(
             actions.len(),
             conditions.as_ptr(),
             conditions.len(),
+            crews.as_ptr(),
+            crews.len(),
             tasks.as_ptr(),
             tasks.len(),
-            seed,
             file.as_mut_ptr(),
             file.len(),
         )
     }
 }
 
-/// Reports how varied the plans of `n` seeds in a row from `first` on are: 1 to 8 and 21, then 19, 18, 13. Done: the report is
-/// `report[..first]`: how many plans, how many refusals 10, 11 and 12, how many different plans; then for each position of a
+/// Reports how varied a crew's plans of `n` seeds in a row from `first` on are: 1 to 8 and 21, then 22, 19, 18, 13. Done: the report
+/// is `report[..first]`: how many plans, how many refusals 10, 11 and 12, how many different plans; then for each position of a
 /// plan how often each action stood there.
-pub fn report(file: &[u8], first: u64, n: u64, report: &mut [u8]) -> Answer {
+pub fn report(file: &[u8], crew: u64, first: u64, n: u64, report: &mut [u8]) -> Answer {
     unsafe {
         exported::marrowkite_report(
             file.as_ptr(),
             file.len(),
+            crew,
             first,
             n,
             report.as_mut_ptr(),
@@ -187,14 +205,15 @@ pub fn report(file: &[u8], first: u64, n: u64, report: &mut [u8]) -> Answer {
     }
 }
 
-/// Checks a chart, a list of actions and pairs of two bytes, the first to be done before the second: 1 to 8 and 21, then 10, 11, 12,
-/// 19, 14, 25, 26, 27, 28. Done: at least one order of the list keeps all pairs, and every order that does is a straight plan;
-/// first is how many actions there are, second how many pairs.
-pub fn chart(file: &[u8], actions: &[u8], pairs: &[u8]) -> Answer {
+/// Checks a crew's chart, a list of actions and pairs of two bytes, the first to be done before the second: 1 to 8 and 21, then 22,
+/// 10, 11, 12, 19, 14, 25, 26, 27, 28. Done: at least one order of the list keeps all pairs, and every order that does is a straight
+/// plan; first is how many actions there are, second how many pairs.
+pub fn chart(file: &[u8], crew: u64, actions: &[u8], pairs: &[u8]) -> Answer {
     unsafe {
         exported::marrowkite_chart(
             file.as_ptr(),
             file.len(),
+            crew,
             actions.as_ptr(),
             actions.len(),
             pairs.as_ptr(),
@@ -218,6 +237,7 @@ mod tests {
         0, 0, 1, 255, 0, 1, 0, 1, 255, 0, 1, 1, 2, 255, 2, 2, 0, 1, 255, 2, 0, 1, 0, 255, 0,
     ];
     const CONDITIONS: [u8; 8] = [0, 1, 2, 1, 0, 1, 1, 1];
+    const CREWS: [u8; 5] = [3, 0, 0, 0, 1];
     const TASKS: [u8; 9] = [0, 0, 1, 1, 0, 2, 2, 0, 1];
 
     fn answer(number: u64, first: u64, second: u64) -> Answer {
@@ -233,12 +253,12 @@ mod tests {
         assert_eq!(check(&PORTER), answer(0, 5, 3));
         assert_eq!(draw(1, 5, &mut ranks), answer(0, 984943658, 0));
         assert_eq!(ranks, [3, 0, 4, 1, 2]);
-        assert_eq!(plan(&PORTER, &ranks, &mut steps), answer(0, 4, 0));
+        assert_eq!(plan(&PORTER, 0, &ranks, &mut steps), answer(0, 4, 0));
         assert_eq!(steps, [1, 0, 3, 2, 0xaa, 0xaa]);
-        assert_eq!(run(&PORTER, &steps[..4], &mut state), answer(0, 3, 0));
+        assert_eq!(run(&PORTER, 0, &steps[..4], &mut state), answer(0, 3, 0));
         assert_eq!(state, [1, 2, 1, 0xaa]);
         let mut seeded = [0xaa; 4];
-        assert_eq!(plan_seeded(&PORTER, &mut seeded), answer(0, 4, 0));
+        assert_eq!(plan_seeded(&PORTER, 0, &mut seeded), answer(0, 4, 0));
         assert_eq!(seeded, steps[..4]);
     }
 
@@ -251,18 +271,18 @@ mod tests {
     fn a_refused_call_alters_nothing() {
         let mut buffer = [0xaa; 3];
         assert_eq!(
-            plan(&PORTER, &[0, 1, 2, 3, 4], &mut buffer),
+            plan(&PORTER, 0, &[0, 1, 2, 3, 4], &mut buffer),
             answer(13, 4, 0)
         );
-        assert_eq!(plan_seeded(&PORTER[..55], &mut buffer), answer(1, 55, 0));
-        assert_eq!(run(&PORTER, &[], &mut buffer), answer(17, 0, 0));
+        assert_eq!(plan_seeded(&PORTER[..55], 0, &mut buffer), answer(1, 55, 0));
+        assert_eq!(run(&PORTER, 0, &[], &mut buffer), answer(17, 0, 0));
         assert_eq!(draw(0, 3, &mut buffer), answer(18, 0, 0));
         assert_eq!(
-            write(0, &VARIABLES, &ACTIONS, &CONDITIONS, &TASKS, 0, &mut buffer),
+            write(0, &VARIABLES, &ACTIONS, &CONDITIONS, &[3, 0, 0, 0, 0], &TASKS, &mut buffer),
             answer(5, 50, 0)
         );
         assert_eq!(
-            write(0, &VARIABLES, &ACTIONS, &CONDITIONS, &TASKS, 1, &mut buffer),
+            write(0, &VARIABLES, &ACTIONS, &CONDITIONS, &CREWS, &TASKS, &mut buffer),
             answer(13, 56, 0)
         );
         assert_eq!(buffer, [0xaa; 3]);
@@ -271,17 +291,17 @@ mod tests {
     #[test]
     fn empty_slices() {
         assert_eq!(check(&[]), answer(1, 0, 0));
-        assert_eq!(plan(&PORTER, &[], &mut []), answer(9, 0, 1));
-        assert_eq!(chart(&PORTER, &[], &[]), answer(25, 0, 0));
+        assert_eq!(plan(&PORTER, 0, &[], &mut []), answer(9, 0, 1));
+        assert_eq!(chart(&PORTER, 0, &[], &[]), answer(25, 0, 0));
         assert_eq!(draw(7, 0, &mut []), answer(0, 7, 0));
-        assert_eq!(write(0, &[], &[], &[], &[], 1, &mut []), answer(3, 0, 0));
+        assert_eq!(write(0, &[], &[], &[], &[], &[], &mut []), answer(3, 0, 0));
     }
 
     #[test]
     fn the_porter_is_written() {
         let mut file = [0xaa; 58];
         assert_eq!(
-            write(0, &VARIABLES, &ACTIONS, &CONDITIONS, &TASKS, 1, &mut file),
+            write(0, &VARIABLES, &ACTIONS, &CONDITIONS, &CREWS, &TASKS, &mut file),
             answer(0, 56, 0)
         );
         assert_eq!(file[..56], PORTER);
@@ -291,11 +311,11 @@ mod tests {
     #[test]
     fn nothing_that_is_lent_is_passed_over() {
         let mut file = [0xaa; 64];
-        let cut_task = write(0, &VARIABLES, &ACTIONS, &CONDITIONS, &TASKS[..8], 1, &mut file);
+        let cut_task = write(0, &VARIABLES, &ACTIONS, &CONDITIONS, &CREWS, &TASKS[..8], &mut file);
         assert_eq!(cut_task, answer(5, 46, 0));
-        let missing = write(0, &VARIABLES, &ACTIONS, &CONDITIONS[..6], &TASKS, 1, &mut file);
+        let missing = write(0, &VARIABLES, &ACTIONS, &CONDITIONS[..6], &CREWS, &TASKS, &mut file);
         assert_eq!(missing, answer(5, 31, 0));
-        let left_over = write(0, &VARIABLES, &ACTIONS[..20], &[0; 10], &TASKS, 1, &mut file);
+        let left_over = write(0, &VARIABLES, &ACTIONS[..20], &[0; 10], &CREWS, &TASKS, &mut file);
         assert_eq!(left_over.number, 6);
         assert_eq!(file, [0xaa; 64]);
     }
@@ -310,27 +330,74 @@ mod tests {
     #[test]
     fn the_seeds_are_reported() {
         let mut figures = [0xaa; 26];
-        assert_eq!(report(&PORTER, 1, 64, &mut figures), answer(0, 25, 0));
+        assert_eq!(report(&PORTER, 0, 1, 64, &mut figures), answer(0, 25, 0));
         assert_eq!(figures[..5], [64, 0, 0, 0, 2]);
         assert_eq!(figures[15..], [0, 0, 0, 64, 0, 0, 0, 64, 0, 0, 0xaa]);
-        assert_eq!(report(&PORTER, 1, 65, &mut figures), answer(19, 65, 0));
-        assert_eq!(report(&PORTER, 0, 64, &mut figures), answer(18, 0, 0));
-        assert_eq!(report(&PORTER, 1, 1, &mut figures[..24]), answer(13, 25, 0));
+        assert_eq!(report(&PORTER, 0, 1, 65, &mut figures), answer(19, 65, 0));
+        assert_eq!(report(&PORTER, 0, 0, 64, &mut figures), answer(18, 0, 0));
+        assert_eq!(report(&PORTER, 0, 1, 1, &mut figures[..24]), answer(13, 25, 0));
     }
 
     #[test]
     fn a_chart_is_checked() {
         let (listed, orders) = ([0, 1, 2, 3], [0, 2, 0, 3, 1, 2, 1, 3, 3, 2]);
-        assert_eq!(chart(&PORTER, &listed, &orders), answer(0, 4, 5));
-        assert_eq!(chart(&PORTER, &listed, &[1, 0, 0, 3, 3, 2]), answer(0, 4, 3));
-        assert_eq!(chart(&PORTER, &listed, &orders[..8]), answer(28, 3, 2));
-        assert_eq!(chart(&PORTER, &listed, &[3, 2, 2, 0, 0, 3]), answer(27, 0, 0));
-        assert_eq!(chart(&PORTER, &listed, &orders[..9]), answer(26, 4, 0));
-        assert_eq!(chart(&PORTER, &listed[1..], &orders), answer(25, 0, 0));
-        assert_eq!(chart(&PORTER, &[5], &orders), answer(14, 0, 0));
-        assert_eq!(chart(&PORTER, &[0; 257], &orders), answer(19, 257, 0));
-        assert_eq!(chart(&PORTER, &listed, &[0; 8193]), answer(19, 4097, 0));
-        assert_eq!(chart(&PORTER[..55], &[], &[]), answer(1, 55, 0));
+        assert_eq!(chart(&PORTER, 0, &listed, &orders), answer(0, 4, 5));
+        assert_eq!(chart(&PORTER, 0, &listed, &[1, 0, 0, 3, 3, 2]), answer(0, 4, 3));
+        assert_eq!(chart(&PORTER, 0, &listed, &orders[..8]), answer(28, 3, 2));
+        assert_eq!(chart(&PORTER, 0, &listed, &[3, 2, 2, 0, 0, 3]), answer(27, 0, 0));
+        assert_eq!(chart(&PORTER, 0, &listed, &orders[..9]), answer(26, 4, 0));
+        assert_eq!(chart(&PORTER, 0, &listed[1..], &orders), answer(25, 0, 0));
+        assert_eq!(chart(&PORTER, 0, &[5], &orders), answer(14, 0, 0));
+        assert_eq!(chart(&PORTER, 0, &[0; 257], &orders), answer(19, 257, 0));
+        assert_eq!(chart(&PORTER, 0, &listed, &[0; 8193]), answer(19, 4097, 0));
+        assert_eq!(chart(&PORTER[..55], 0, &[], &[]), answer(1, 55, 0));
+    }
+
+    /// The porter, and behind it a crew that brings the pass back and fetches the cart.
+    fn two_crews() -> [u8; 74] {
+        let mut file = [0; 74];
+        file[..55].copy_from_slice(&PORTER[..55]);
+        file[55..].copy_from_slice(&[
+            9, 4, 0, 1, 0, 4, 1, 0, 1, 4, 2, 0, 0, 5, 0, 0, 0, 2, 6,
+        ]);
+        file
+    }
+
+    #[test]
+    fn each_crew_has_its_own_plan() {
+        let (file, rising) = (two_crews(), [0, 1, 2, 3, 4]);
+        let (mut steps, mut state, mut figures) = ([0xaa; 4], [0xaa; 3], [0xaa; 15]);
+        assert_eq!(check(&file), answer(0, 5, 3));
+        assert_eq!(plan(&file, 0, &rising, &mut steps), answer(0, 4, 0));
+        assert_eq!(steps, [0, 1, 3, 2]);
+        assert_eq!(plan(&file, 1, &rising, &mut steps), answer(0, 2, 0));
+        assert_eq!(steps, [1, 4, 3, 2]);
+        assert_eq!(run(&file, 1, &[4, 1], &mut state), answer(0, 3, 0));
+        assert_eq!(state, [0, 1, 0]);
+        assert_eq!(report(&file, 1, 1, 64, &mut figures), answer(0, 15, 0));
+        assert_eq!(figures[..5], [64, 0, 0, 0, 2]);
+        assert_eq!(chart(&file, 1, &[4, 1], &[]), answer(0, 2, 0));
+        let (crews, mut tasks) = ([3, 0, 0, 0, 1, 3, 0, 0, 0, 2], [0, 0, 1, 1, 0, 2, 2, 0, 1, 0, 1, 0, 1, 0, 1, 2, 0, 0]);
+        let mut written = [0; 74];
+        let of_lists = write(0, &VARIABLES, &ACTIONS, &CONDITIONS, &crews, &tasks, &mut written);
+        assert_eq!((of_lists, written), (answer(0, 74, 0), file));
+        tasks[14] = 3;
+        let too_large = write(0, &VARIABLES, &ACTIONS, &CONDITIONS, &crews, &tasks, &mut written);
+        assert_eq!(too_large, answer(5, 60, 0));
+    }
+
+    #[test]
+    fn a_crew_that_is_not_there() {
+        let mut buffer = [0xaa; 4];
+        for crew in [2, 8, 255, 1 << 32, u64::MAX] {
+            assert_eq!(plan(&two_crews(), crew, &[], &mut buffer), answer(22, crew, 0));
+            assert_eq!(plan_seeded(&two_crews(), crew, &mut buffer), answer(22, crew, 0));
+            assert_eq!(run(&two_crews(), crew, &[9], &mut []), answer(22, crew, 0));
+            assert_eq!(report(&two_crews(), crew, 0, 0, &mut buffer), answer(22, crew, 0));
+            assert_eq!(chart(&two_crews(), crew, &[9], &[0]), answer(22, crew, 0));
+        }
+        assert_eq!(plan_seeded(&two_crews()[..73], 2, &mut buffer), answer(1, 73, 0));
+        assert_eq!(buffer, [0xaa; 4]);
     }
 
     #[test]
@@ -338,14 +405,14 @@ mod tests {
         let mut steps = [0xaa; 1];
         for (situation, action) in [(1, 0), (2, 1)] {
             let file = night_porter(situation);
-            assert_eq!(plan_seeded(&file, &mut steps), answer(0, 1, 0));
+            assert_eq!(plan_seeded(&file, 0, &mut steps), answer(0, 1, 0));
             assert_eq!(steps, [action]);
-            assert_eq!(run(&file, &[1 - action], &mut steps), answer(20, 0, 0));
+            assert_eq!(run(&file, 0, &[1 - action], &mut steps), answer(20, 0, 0));
             let (mut written, actions) = ([0; 26], [0, 0, 1, 2, 0, 0, 0, 1, 4, 0]);
-            let of_lists = write(situation, &[2], &actions, &[], &[0, 0, 1], 1, &mut written);
+            let of_lists = write(situation, &[2], &actions, &[], &[1, 0, 0, 0, 1], &[0, 0, 1], &mut written);
             assert_eq!((of_lists, written), (answer(0, 26, 0), file));
         }
-        assert_eq!(plan_seeded(&night_porter(3), &mut steps), answer(10, 0, 1));
+        assert_eq!(plan_seeded(&night_porter(3), 0, &mut steps), answer(10, 0, 1));
         assert_eq!(check(&night_porter(8)), answer(5, 0, 0));
     }
 
@@ -353,9 +420,9 @@ mod tests {
     fn it_says_where_a_walk_breaks() {
         let mut broken = PORTER;
         (broken[44], broken[45]) = (2, 1);
-        assert_eq!(plan_seeded(&broken, &mut []), answer(10, 1, 0));
+        assert_eq!(plan_seeded(&broken, 0, &mut []), answer(10, 1, 0));
         let round = [1, 3, 2, 0, 1, 2, 2, 0, 2, 1, 4, 0, 0, 2, 5, 0, 0, 0, 1, 6];
-        assert_eq!(plan_seeded(&round, &mut []), answer(10, 0, 255));
+        assert_eq!(plan_seeded(&round, 0, &mut []), answer(10, 0, 255));
     }
 
     #[test]

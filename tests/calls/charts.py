@@ -7,14 +7,14 @@ LISTED = [0, 1, 2, 3]
 ORDERS = [(0, 2), (0, 3), (1, 2), (1, 3), (3, 2)]
 
 
-def show(book, name, file, actions, pairs, *says, lone=()):
+def show(book, name, file, actions, pairs, *says, lone=(), crew=0):
     """Pairs are two numbers each; a lone last byte may follow."""
     book.case(f"chart: {name}")
     listed, paired = bytes(actions), bytes([*(action for pair in pairs for action in pair), *lone])
     book.use(file + listed + paired)
-    numbers, _ = chart(file, listed, paired)
+    numbers, _ = chart(file, crew, listed, paired)
     book.held(numbers, says)
-    book.ask(f"chart {len(file)} {len(listed)}", "answers", *numbers)
+    book.ask(f"chart {crew} {len(file)} {len(listed)}", "answers", *numbers)
 
 
 def porters(book):

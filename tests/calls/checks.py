@@ -1,11 +1,11 @@
 """Checking files: the porter file whole, cut, damaged and with a record more, and files at document 01's limits."""
 
-from study import PORTER, action_record, check, condition_record, end_record, seed_record, situation_record
-from study import situations_record, task_record, variable_record
+from study import LONGEST_FILE, MOST_CREWS, PORTER, action_record, check, condition_record, crew_record, end_record, seed_record
+from study import situation_record, situations_record, task_record, variable_record
 
-TELLING = [0, 1, 2, 3, 4, 5, 6, 7, 8, 9, 16, 17, 32, 255]
+TELLING = [0, 1, 2, 3, 4, 5, 6, 7, 8, 9, 10, 16, 17, 32, 255]
 MORE = [variable_record(2), action_record(1, 2, 0), condition_record(2, 0), task_record(0, 0, 0), seed_record(2), end_record()]
-MORE += [situations_record(1), situation_record(7)]
+MORE += [situations_record(1), situation_record(7), crew_record()]
 
 
 def show(book, name, *files, says=None):
@@ -39,7 +39,7 @@ def porter_cases(book):
     for at in range(56):
         show(book, f"byte {at} set to " + " ".join(map(str, TELLING)), *(with_byte(PORTER, at, byte) for byte in TELLING))
     for at in range(56):
-        show(book, f"byte {at} set to 0 .. 9, and cut behind it", *(PORTER[:at] + bytes([byte]) for byte in range(10)))
+        show(book, f"byte {at} set to 0 .. 10, and cut behind it", *(PORTER[:at] + bytes([byte]) for byte in range(11)))
     for at in range(57):
         show(book, f"a record more of each kind at {at}", *(inserted(at, record) for record in MORE))
 
@@ -105,8 +105,8 @@ def situations(book):
     with_set = situation_record(2) + PORTER[:34] + situations_record(4) + PORTER[34:]
     show(book, "the porter, who books by night alone", with_set, says=(0, 5, 3))
     for at in range(len(with_set)):
-        cut = [with_set[:at] + bytes([byte]) for byte in range(10)]
-        show(book, f"the same cut to {at}, then 0 .. 9", *cut)
+        cut = [with_set[:at] + bytes([byte]) for byte in range(11)]
+        show(book, f"the same cut to {at}, then 0 .. 10", *cut)
     show(book, "a condition behind a set", with_set[:38] + condition_record(2, 1) + with_set[38:], says=(3, 38, 0))
 
 
@@ -157,8 +157,12 @@ def setters(count, below, others, more=b""):
     )
 
 
+def crew(count):
+    return b"".join(task_record(v, 0, 1) for v in range(count)) + seed_record(1)
+
+
 def rest(count):
-    return b"".join(task_record(v, 0, 1) for v in range(count)) + seed_record(1) + end_record()
+    return crew(count) + end_record()
 
 
 def many_variables(book):
@@ -208,10 +212,12 @@ def many_conditions(book):
 
 
 def longest(book):
-    data = situation_record(7) + variables(32, 16) + setters(32, 8, 32, situations_record(128)) + rest(32)
-    book.held(len(data), 25544)
+    data = situation_record(7) + variables(32, 16) + setters(32, 8, 32, situations_record(128))
+    data += crew_record().join([crew(32)] * MOST_CREWS) + end_record()
+    book.held(len(data), LONGEST_FILE)
     show(book, "the longest file", data)
     show(book, "the longest file and a byte", data + b"\0")
+    show(book, "the longest file, and a ninth crew for its end", data[:-1] + crew_record(), says=(4, LONGEST_FILE - 1, 0))
 
 
 def write(book):

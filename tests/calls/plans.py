@@ -12,12 +12,12 @@ from oracle import (
     drawn,
     file_of,
     goal_state,
+    heard,
     horse_breeder,
     may_be_done,
     plan,
     plan_seeded,
     porter,
-    read,
     start_state,
     two_wanting,
 )
@@ -25,21 +25,22 @@ from oracle import (
 RISING = bytes(range(5))
 
 
-def add_plan(book, file, ranks, room=12, says=None, leaves=None):
+def add_plan(book, file, ranks, room=12, says=None, leaves=None, crew=0):
     """A call more of the case that was begun."""
     book.use(file)
-    made = "plan", lambda buffer: plan(file, bytes(ranks), buffer)
-    book.lend(made, bytes(ranks).hex(), room=room, says=says, leaves=leaves)
+    made = "plan", lambda buffer: plan(file, crew, bytes(ranks), buffer)
+    book.lend(made, crew, bytes(ranks).hex(), room=room, says=says, leaves=leaves)
 
 
-def add_seeded(book, file, room=12):
+def add_seeded(book, file, room=12, says=None, leaves=None, crew=0):
     book.use(file)
-    book.lend(("seeded", lambda buffer: plan_seeded(file, buffer)), room=room)
+    made = "seeded", lambda buffer: plan_seeded(file, crew, buffer)
+    book.lend(made, crew, room=room, says=says, leaves=leaves)
 
 
-def show_plan(book, name, file, ranks, room=12, says=None, leaves=None):
+def show_plan(book, name, file, ranks, room=12, says=None, leaves=None, crew=0):
     book.case(name)
-    add_plan(book, file, ranks, room, says, leaves)
+    add_plan(book, file, ranks, room, says, leaves, crew)
 
 
 def show_seeded(book, name, file, room=12):
@@ -122,7 +123,7 @@ def other_files(book):
     case(book, "no action, at the goal", without_action(0), [], (21, 0, 0))
     case(book, "no action, and a rank", without_action(0), [0], (21, 0, 0))
     case(book, "no action, away from the goal", without_action(1), [], (21, 0, 0))
-    dead = replace(read(PORTER), counts=[2, 3, 2, 2], tasks=[(0, 1), (0, 2), (0, 1), (0, 0)])
+    dead = replace(heard(PORTER, 0), counts=[2, 3, 2, 2], tasks=[(0, 1), (0, 2), (0, 1), (0, 0)])
     case(book, "the porter with a dead pass", file_of(dead), range(5), (21, 3, 0))
     case(book, "the porter with a dead pass, and ranks too few", file_of(dead), [0], (21, 3, 0))
 
@@ -148,7 +149,7 @@ def which_first(book):
 
 def seeds(book):
     for seed in (1, 2, 256, 2147483646, 2147483647, 0):
-        show_seeded(book, f"seed {seed}", file_of(replace(read(PORTER), seed=seed)))
+        show_seeded(book, f"seed {seed}", file_of(replace(heard(PORTER, 0), seed=seed)))
     show_seeded(book, "room for 3", PORTER, 3)
     show_seeded(book, "room for 4", PORTER, 4)
 
@@ -163,7 +164,8 @@ def faults(book):
         ("nothing", b""),
         ("cut to 54", PORTER[:54]),
         ("cut to 55", PORTER[:55]),
-        ("an unknown kind", with_byte(6, 9)),
+        ("an unknown kind", with_byte(6, 10)),
+        ("a crew for an action", with_byte(6, 9)),
         ("a set for an action", with_byte(6, 7)),
         ("an end for an action", with_byte(6, 6)),
         ("a variable of 17 values", with_byte(1, 17)),
@@ -178,7 +180,7 @@ def faults(book):
 
 def in_one_buffer(book):
     """Nothing is kept between calls but the buffer's bytes."""
-    with_bucket = file_of(replace(read(horse_breeder()), tasks=[(0, 2), (1, 0), (0, 2)]))
+    with_bucket = file_of(replace(heard(horse_breeder(), 0), tasks=[(0, 2), (1, 0), (0, 2)]))
     book.case("in one buffer: porter, horse, horse with the bucket, porter to 1 1 1, and porter again with room for 3 and for 8")
     add_plan(book, PORTER, RISING, 8)
     add_plan(book, horse_breeder(), range(7), 8)
@@ -220,7 +222,7 @@ def first_tried(study, ranks):
 def compare_long(study, ranks):
     """The oracle tries no list of a file with so many; here they are tried in order until one is a straight plan."""
     steps = bytes(first_tried(study, ranks))
-    if plan(file_of(study), bytes(ranks), bytes(120)) != ((0, 120, 0), steps):
+    if plan(file_of(study), 0, bytes(ranks), bytes(120)) != ((0, 120, 0), steps):
         sys.exit(f"120 steps: the first straight plan is {list(steps)}")
 
 

@@ -3,14 +3,16 @@
 from study import END, PORTER, record_at
 
 # Bytes that are no kind among others; behind them, records that end with the file or are cut by its end.
-ODD = bytes([0, 9, 7, 8, 255, 128, 1, 0, 2, 9, 10, 11, 6, 254, 5, 4, 3, 2, 1, 3, 5, 4, 3, 2, 1])
+ODD = bytes([0, 10, 7, 8, 255, 128, 1, 0, 2, 9, 10, 11, 6, 254, 5, 4, 3, 2, 1, 3, 5, 4, 3, 2, 1])
 
 # Two records, then a byte that is no kind.
-SHORT = bytes([1, 16, 3, 2, 1, 9, 6])
-
+SHORT = bytes([1, 16, 3, 2, 1, 10, 6])
 
 # Records of the kinds 8 and 7, whatever they say and wherever they stand.
 SITUATIONS = bytes([8, 9, 7, 255, 7])
+
+# What opens a crew, also where none may be opened.
+CREWS = bytes([9, 9, 4, 9, 9, 9, 9, 5, 0, 0, 0, 1, 9, 6])
 
 
 def told(data, at):
@@ -50,4 +52,6 @@ def write(book):
     one_by_one(book, "the porter file cut to 55", PORTER[:55])
     one_by_one(book, "odd bytes", SHORT)
     one_by_one(book, "a situation, a set, a set that is cut", SITUATIONS)
+    each_place(book, "records of crews", CREWS)
+    one_by_one(book, "records of crews", CREWS)
     one_by_one(book, "no bytes", b"")

@@ -2,17 +2,17 @@
 
 from dataclasses import replace
 
-from oracle import PORTER, Action, Study, coming_round, drawn, file_of, porter, read, report, two_wanting
+from oracle import PORTER, Action, Study, coming_round, drawn, file_of, heard, porter, report, two_wanting
 
 LARGEST = 2**64 - 1
 LAST_SEED = 2147483646
 
 
-def show(book, name, file, first, count, room=28, says=None, leaves=None):
+def show(book, name, file, first, count, room=28, says=None, leaves=None, crew=0):
     book.case(f"report: {name}")
     book.use(file)
-    made = "report", lambda buffer: report(file, first, count, buffer)
-    book.lend(made, first, count, room=room, says=says, leaves=leaves)
+    made = "report", lambda buffer: report(file, crew, first, count, buffer)
+    book.lend(made, crew, first, count, room=room, says=says, leaves=leaves)
 
 
 def reported(book, name, file, first, count, figures, room=28):
@@ -83,7 +83,7 @@ def other_plans(book):
     for count in (1, 64):
         reported(book, f"{count} empty plans", porter((0, 0, 0)), 3, count, [count, 0, 0, 0, 1], room=5)
     refused(book, "empty plans in room for 4", porter((0, 0, 0)), 3, 64, 13, 5, room=4)
-    more = file_of(replace(read(PORTER), actions=[*read(PORTER).actions, Action(2, 1, 0, [], 0)]))
+    more = file_of(replace(heard(PORTER, 0), actions=[*heard(PORTER, 0).actions, Action(2, 1, 0, [], 0)]))
     reported(book, "an action out of force has its figures", more, 1, 40, by_ranks([0, 1], [3, 2], 6, 1, 40), room=30)
 
 

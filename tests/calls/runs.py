@@ -1,18 +1,21 @@
 """Running lists on the porter file, on source 004's table and on a file with as many actions as there may be."""
 
-from study import PORTER, Action, Refused, Study, read, written
+from study import PORTER, Action, Crew, Refused, Study, read, written
 
 
-def run(data, entries, buffer):
-    """The three numbers, and the buffer with the end state in its first bytes."""
+def run(data, number, entries, buffer):
+    """The three numbers, and the buffer with the end state of a crew in its first bytes."""
     try:
         study = read(data)
     except Refused as refused:
         return (refused.number, refused.place, 0), buffer
+    if number >= len(study.crews):
+        return (22, number, 0), buffer
+    crew = study.crews[number]
     if len(buffer) < len(study.counts):
         return (13, len(study.counts), 0), buffer
-    state = list(study.starts)
-    held = [{start} for start in study.starts]
+    state = list(crew.starts)
+    held = [{start} for start in crew.starts]
     for index, entry in enumerate(entries):
         if entry >= len(study.actions):
             return (14, index, 0), buffer
@@ -28,7 +31,7 @@ def run(data, entries, buffer):
             return (16, index, action.variable), buffer
         state[action.variable] = action.post
         held[action.variable].add(action.post)
-    away = [v for v, goal in enumerate(study.goals) if state[v] != goal]
+    away = [v for v, goal in enumerate(crew.goals) if state[v] != goal]
     if away:
         return (17, min(away), 0), buffer
     return (0, len(state), 0), bytes(state) + buffer[len(state) :]
@@ -47,9 +50,7 @@ HORSE = written(
             Action(2, 0, 1, [(1, 1)]),
             Action(2, 1, 2, [(1, 1)]),
         ],
-        starts=[0, 0, 0],
-        goals=[2, 0, 2],
-        seed=1,
+        crews=[Crew([0, 0, 0], [2, 0, 2], 1)],
     )
 )
 
@@ -58,18 +59,21 @@ TALL = written(
     Study(
         counts=[16] * 18,
         actions=[Action(v, q, q + 1) for v in range(17) for q in range(15)] + [Action(17, 0, 1)],
-        starts=[0] * 18,
-        goals=[15] * 17 + [1],
-        seed=1,
+        crews=[Crew([0] * 18, [15] * 17 + [1], 1)],
     )
 )
 
 
-def show(book, name, data, entries, room=20, says=None, leaves=None):
+def show(book, name, data, entries, room=20, says=None, leaves=None, crew=0):
     book.case(name)
+    add(book, data, entries, room, says, leaves, crew)
+
+
+def add(book, data, entries, room=20, says=None, leaves=None, crew=0):
+    """A call more of the case that was begun."""
     book.use(data)
-    made = "run", lambda buffer: run(data, entries, buffer)
-    book.lend(made, bytes(entries).hex(), room=room, says=says, leaves=leaves)
+    made = "run", lambda buffer: run(data, crew, entries, buffer)
+    book.lend(made, crew, bytes(entries).hex(), room=room, says=says, leaves=leaves)
 
 
 def porter_cases(book):
@@ -114,7 +118,7 @@ def horse_cases(book):
 # Two ways to load a cart: 0 by day, which needs a pass, and 1 by night, in situation 2; 2 takes the pass.
 def loading(situation):
     actions = [Action(0, 0, 1, [(1, 1)], 0b11111011), Action(0, 0, 1, [], 4), Action(1, 0, 1)]
-    return written(Study([2, 2], actions, [0, 0], [1, 1], 1, situation))
+    return written(Study([2, 2], actions, [Crew([0, 0], [1, 1], 1)], situation))
 
 
 def situation_cases(book):

@@ -1,12 +1,25 @@
 """Writing files from lists: the porter's lists whole, faulty and cut, and lists at document 01's limits."""
 
-from study import ALL_EIGHT, PORTER, Refused, action_record, condition_record, end_record, read, seed_record
+from study import ALL_EIGHT, PORTER, Refused, action_record, condition_record, crew_record, end_record, read, seed_record
 from study import situation_record, situations_record, task_record, variable_record
 
 UNLENT = 255  # each number of what is announced and not lent
+UNLENT_SEED = 2**32 - 1
 
 
-def file_of(situation, variables, actions, conditions, tasks, seed):
+def crews_of(crews, tasks):
+    """The records of the crews. One that is cut, and one that is not there, takes all tasks left."""
+    while crews or tasks:
+        many, seed = (crews[0], int.from_bytes(crews[1:5], "big")) if len(crews) > 4 else ((len(tasks) + 2) // 3, UNLENT_SEED)
+        crews = crews[5:]
+        data = b""
+        for _ in range(many):
+            data += task_record(*(tasks[:3] if len(tasks) > 2 else (UNLENT, UNLENT, UNLENT)))
+            tasks = tasks[3:]
+        yield data + seed_record(seed)
+
+
+def file_of(situation, variables, actions, conditions, crews, tasks):
     """The bytes that the lists stand for."""
     data = situation_record(situation) + b"".join(variable_record(count) for count in variables)
     while actions or conditions:  # an action that is cut, and one that is not there, takes all conditions left
@@ -19,10 +32,7 @@ def file_of(situation, variables, actions, conditions, tasks, seed):
             data += condition_record(*(conditions[:2] if len(conditions) > 1 else (UNLENT, UNLENT)))
             conditions = conditions[2:]
         data += situations_record(situations)
-    while tasks:
-        data += task_record(*(tasks[:3] if len(tasks) > 2 else (UNLENT, UNLENT, UNLENT)))
-        tasks = tasks[3:]
-    return data + seed_record(seed) + end_record()
+    return data + crew_record().join(crews_of(crews, tasks)) + end_record()
 
 
 def written(lists, buffer):
@@ -39,10 +49,10 @@ def written(lists, buffer):
 
 def add(book, lists, room, says=None, leaves=None):
     """A call more of the case that was begun. The lists are given as the file's bytes, one after another."""
-    situation, *parts, seed = lists
+    situation, *parts = lists
     book.use(b"".join(parts))
     made = "write", lambda buffer: written(lists, buffer)
-    book.lend(made, seed, situation, *map(len, parts), room=room, says=says, leaves=leaves)
+    book.lend(made, situation, *map(len, parts), room=room, says=says, leaves=leaves)
 
 
 def show(book, name, lists, room=60, says=None, leaves=None):
@@ -58,16 +68,26 @@ def refused(book, name, lists, *numbers):
 VARIABLES = bytes([2, 3, 2])
 ACTIONS = bytes.fromhex("000001ff00 010001ff00 010102ff02 020001ff02 000100ff00")
 CONDITIONS = bytes.fromhex("0001 0201 0001 0101")
+CREWS = bytes.fromhex("0300000001")
 TASKS = bytes.fromhex("000001 010002 020001")
 TWICE = ACTIONS[:20] + ACTIONS[:5]
 
 
-def porter(variables=VARIABLES, actions=ACTIONS, conditions=CONDITIONS, tasks=TASKS, seed=1, situation=0):
-    return situation, variables, actions, conditions, tasks, seed
+def crew(many, seed=1):
+    return bytes([many]) + seed.to_bytes(4, "big")
+
+
+def one_crew(tasks, seed):
+    return crew((len(tasks) + 2) // 3, seed)
+
+
+def porter(variables=VARIABLES, actions=ACTIONS, conditions=CONDITIONS, crews=None, tasks=TASKS, seed=1, situation=0):
+    """Where no crews are given, there is one, and it takes all tasks."""
+    return situation, variables, actions, conditions, one_crew(tasks, seed) if crews is None else crews, tasks
 
 
 def alone(variables=b"", actions=b"", conditions=b"", tasks=b"", seed=1, situation=0):
-    return situation, variables, actions, conditions, tasks, seed
+    return situation, variables, actions, conditions, one_crew(tasks, seed), tasks
 
 
 def with_byte(data, at, byte):
@@ -94,6 +114,8 @@ def faults(book):
     refused(book, "no variable", porter(variables=b""), 3, 0)
     refused(book, "no variable, and conditions left over", alone(conditions=CONDITIONS), 3, 0)
     refused(book, "no variable, and tasks alone", alone(tasks=TASKS), 3, 0)
+    refused(book, "no list at all", (0, b"", b"", b"", b"", b""), 3, 0)
+    refused(book, "no crew", porter(crews=b"", tasks=b""), 3, 38)
     refused(book, "no task", porter(tasks=b""), 3, 38)
     refused(book, "a task too few", porter(tasks=TASKS[:6]), 3, 46)
     refused(book, "a task too many", porter(tasks=TASKS + TASKS[:3]), 3, 50)
@@ -131,7 +153,42 @@ def cut(book):
     refused(book, "a byte of conditions left over", porter(conditions=CONDITIONS + b"\0"), 5, 38)
     refused(book, "conditions and no action", porter(actions=b""), 5, 6)
     refused(book, "a task cut", porter(tasks=TASKS[:8]), 5, 46)
-    refused(book, "a task cut behind the last", porter(tasks=TASKS + b"\0\0"), 3, 50)
+    refused(book, "a task cut behind the last", porter(crews=crew(4), tasks=TASKS + b"\0\0"), 3, 50)
+
+
+def crews(book):
+    """They take their tasks in turn."""
+    back = bytes.fromhex("000100 010000 020101")
+    two = PORTER[:-1] + b"\x09" + bytes.fromhex("04000100 04010000 04020101 0501020304 06")
+    show(book, "two crews", porter(crews=CREWS + crew(3, 0x01020304), tasks=TASKS + back), room=80, says=(0, 74, 0), leaves=two)
+    show(book, "two crews, a byte short", porter(crews=CREWS * 2, tasks=TASKS * 2), room=73, says=(13, 74, 0), leaves=b"")
+    show(book, "eight crews", porter(crews=CREWS * 8, tasks=TASKS * 8), room=182, says=(0, 182, 0))
+    show(book, "eight crews in situation 1", porter(crews=CREWS * 8, tasks=TASKS * 8, situation=1), room=184, says=(0, 184, 0))
+    refused(book, "nine crews", porter(crews=CREWS * 9, tasks=TASKS * 9), 4, 181)
+    refused(book, "nine crews, the last without a task", porter(crews=CREWS * 9, tasks=TASKS * 8), 4, 181)
+    refused(book, "eight crews, and a byte of tasks left over", porter(crews=CREWS * 8, tasks=TASKS * 8 + b"\0"), 4, 181)
+    refused(book, "eight crews, and one that is cut", porter(crews=CREWS * 8 + b"\3", tasks=TASKS * 8), 4, 181)
+    refused(book, "the second crew's seed 0", porter(crews=CREWS + crew(3, 0), tasks=TASKS * 2), 5, 68)
+    refused(book, "the first crew's seed 0", porter(crews=crew(3, 0) + CREWS, tasks=TASKS * 2), 5, 50)
+    refused(book, "the second crew's goal too large", porter(crews=CREWS * 2, tasks=TASKS + with_byte(TASKS, 5, 3)), 5, 60)
+    refused(book, "the second crew a task too few", porter(crews=CREWS + crew(2), tasks=TASKS * 2), 3, 64)
+    refused(book, "the second crew a task too many", porter(crews=CREWS + crew(4), tasks=TASKS * 2), 3, 68)
+    refused(book, "the first crew a task too many", porter(crews=crew(4) + crew(2), tasks=TASKS * 2), 3, 50)
+    refused(book, "the first crew a task too few", porter(crews=crew(2) + crew(4), tasks=TASKS * 2), 3, 46)
+    refused(book, "the second crew without tasks", porter(crews=CREWS + crew(0)), 3, 56)
+    refused(book, "the second crew's tasks missing", porter(crews=CREWS * 2), 5, 56)
+    refused(book, "the second crew's last task missing", porter(crews=CREWS * 2, tasks=TASKS + TASKS[:6]), 5, 64)
+    refused(book, "a crew that announces 255", porter(crews=crew(255)), 3, 50)
+    refused(book, "a crew cut, with the tasks of one", porter(crews=CREWS[:4]), 5, 50)
+    refused(book, "a crew cut, without a task", porter(crews=CREWS[:1], tasks=b""), 3, 38)
+    refused(book, "tasks and no crew", porter(crews=b""), 5, 50)
+    refused(book, "tasks left over", porter(crews=CREWS, tasks=TASKS * 2), 5, 68)
+    refused(book, "a task left over", porter(crews=CREWS, tasks=TASKS + TASKS[:3]), 3, 60)
+    refused(book, "a byte of tasks left over", porter(crews=CREWS, tasks=TASKS + b"\0"), 5, 56)
+    refused(book, "the second crew cut", porter(crews=CREWS + CREWS[:2], tasks=TASKS * 2), 5, 68)
+    refused(book, "the second crew cut, without a task", porter(crews=CREWS + CREWS[:2]), 3, 56)
+    refused(book, "two crews, an action that comes before", porter(actions=TWICE, crews=CREWS * 2, tasks=TASKS * 2), 7, 34)
+    refused(book, "two crews, one variable unused", porter(actions=ACTIONS[:10], conditions=b"", crews=CREWS * 2, tasks=TASKS * 2), 21, 2)
 
 
 def unused(book):
@@ -149,8 +206,8 @@ def unused(book):
 
 
 def each_byte(book):
-    for which, data in enumerate((VARIABLES, ACTIONS, CONDITIONS, TASKS)):
-        name = ("variables", "actions", "conditions", "tasks")[which]
+    for which, data in enumerate((VARIABLES, ACTIONS, CONDITIONS, CREWS, TASKS)):
+        name = ("variables", "actions", "conditions", "crews", "tasks")[which]
         book.case(f"write: {name} cut to 0, 1 .. {len(data)} bytes, and with one more")
         for changed in [data[:length] for length in range(len(data) + 1)] + [data + b"\1"]:
             add(book, porter(**{name: changed}), 0)
@@ -215,5 +272,6 @@ def write(book):
     faults(book)
     unused(book)
     cut(book)
+    crews(book)
     each_byte(book)
     limits(book)

@@ -31,10 +31,12 @@ WORKED = [
     oracle.coming_round(),
     bytes.fromhex("0102 02000001 02000001 04000001 0500000001 06"),
     bytes.fromhex("0102 0102 02000001 04000001 04010001 0500000001 06"),
+    oracle.file_of(oracle.porter_crews((1, 2, 1), (0, 2, 1), (0, 0, 0))),
 ]
 
 # What the files have to show, each at least once. 9 and 13 are not among it: the program draws its ranks, and has room.
 TO_MEET = ["plan", "after next", "after sets", "after leaves", "unset", "round", "wants", "walk", "a ring with a tail"]
+TO_MEET += [f"{crews} crews" for crews in range(1, oracle.MOST_CREWS + 1)]
 TO_MEET += [f"refused {number}" for number in (1, 2, 3, 4, 5, 6, 7, 21, 8, 10, 11, 12)] + [f"ring {rule}" for rule in explainer.RULES]
 
 
@@ -47,20 +49,27 @@ def files(rng, count):
             yield oracle.file_of(LARGE[number // 50 % len(LARGE)](rng))
         else:
             study = oracle.each_used(rng, STUDIES[number % len(STUDIES)](rng))
-            yield oracle.file_of(oracle.in_a_situation(rng, study) if number % 3 == 0 else study)
+            study = oracle.in_a_situation(rng, study) if number % 3 == 0 else study
+            yield oracle.file_of(oracle.crewed(rng, study)[0])
 
 
-def shown(file, text):
-    """What a file shows of what is to be met."""
-    lines = text.splitlines()
+def shown_to(file, crew):
+    """What the explanation to one crew shows of what is to be met."""
+    lines = list(explainer.explained_to(file, crew))
     words = {" ".join(word for word in line.split() if not word.isdecimal()) for line in lines}
     if lines[0].startswith("refused"):
         words.add(" ".join(lines[0].split()[:2]))
     if lines[0].startswith("refused 12"):
-        lowest = min(explainer.stuck(oracle.read(file)))
+        lowest = min(explainer.stuck(oracle.heard(file, crew)))
         if str(lowest) not in {line.split()[2] for line in lines[1:]}:
             words.add("a ring with a tail")
     return words
+
+
+def shown(file):
+    """What a file shows of what is to be met."""
+    crews = explainer.crews_in(file)
+    return set().union(*(shown_to(file, crew) for crew in range(crews)), {f"{crews} crews"})
 
 
 def main():
@@ -78,7 +87,7 @@ def main():
     with ThreadPoolExecutor(os.cpu_count()) as pool:
         for number, (file, text) in enumerate(zip(made, pool.map(printed, made))):
             expected = explainer.explained(file)
-            met.update(shown(file, expected))
+            met.update(shown(file))
             if text != expected:
                 failed += 1
                 print(f"file {number} differs: {file.hex()[:400]}\n{expected[:400]}\nis printed as\n{text[:400]}")

@@ -96,13 +96,29 @@ def steps(study, plan):
             yield f"after {rule} {plan.index(one)} {one} {variable} {value}"
 
 
-def explained(file):
-    """The whole text."""
-    numbers, buffer = oracle.plan_seeded(file[: oracle.LONGEST_FILE + 1], bytes(oracle.MOST_ACTIONS))
+def explained_to(file, crew):
+    """The lines of one crew, or those of the refusal of a file that does not load."""
+    numbers, buffer = oracle.plan_seeded(file, crew, bytes(oracle.MOST_ACTIONS))
     number, first, second = numbers
     if number == 0:
-        lines = steps(oracle.read(file), list(buffer[:first]))
-    else:
-        told = {10: lambda s: trace(s, first), 11: lambda s: walk_past(s, first, second), 12: ring}
-        lines = [f"refused {number} {first} {second}", *(told[number](oracle.read(file)) if number in told else [])]
+        return steps(oracle.heard(file, crew), list(buffer[:first]))
+    told = {10: lambda s: trace(s, first), 11: lambda s: walk_past(s, first, second), 12: ring}
+    return [f"refused {number} {first} {second}", *(told[number](oracle.heard(file, crew)) if number in told else [])]
+
+
+def crews_in(file):
+    """How many crews a file has; one is spoken of where it does not load."""
+    try:
+        return len(oracle.read(file).crews)
+    except oracle.Refused:
+        return 1
+
+
+def explained(file):
+    """The whole text: each crew in turn, where there is more than one with a line before it that says which."""
+    file = file[: oracle.LONGEST_FILE + 1]
+    crews = crews_in(file)
+    lines = []
+    for crew in range(crews):
+        lines += [f"crew {crew}"] * (crews > 1) + list(explained_to(file, crew))
     return "".join(line + "\n" for line in lines)

@@ -28,37 +28,40 @@ sys.path.insert(0, str(ROOT / "tests"))
 import oracle  # noqa: E402
 
 NAMES = ["record_at", "check", "plan", "plan_seeded", "run", "draw", "write", "report", "chart"]  # in the order of serve.c
-FILE_FAULTS = set(range(1, 9))
+FILE_FAULTS = {*range(1, 9), 21}
+NO_CREW = 22
 CAN_ANSWER = {
     "record_at": {0, 1, 2},
     "check": {0} | FILE_FAULTS,
-    "plan": {0, 9, 10, 11, 12, 13} | FILE_FAULTS,
-    "plan_seeded": {0, 10, 11, 12, 13} | FILE_FAULTS,
-    "run": {0, 13, 14, 15, 16, 17, 20} | FILE_FAULTS,
+    "plan": {0, 9, 10, 11, 12, 13, NO_CREW} | FILE_FAULTS,
+    "plan_seeded": {0, 10, 11, 12, 13, NO_CREW} | FILE_FAULTS,
+    "run": {0, 13, 14, 15, 16, 17, 20, NO_CREW} | FILE_FAULTS,
     "draw": {0, 13, 18, 19},
-    "write": {0, 3, 4, 5, 6, 7, 13},
-    "report": {0, 13, 18, 19} | FILE_FAULTS,
-    "chart": {0, 10, 11, 12, 14, 19, 25, 26, 27, 28} | FILE_FAULTS,
+    "write": {0, 3, 4, 5, 6, 7, 13, 21},
+    "report": {0, 13, 18, 19, NO_CREW} | FILE_FAULTS,
+    "chart": {0, 10, 11, 12, 14, 19, 25, 26, 27, 28, NO_CREW} | FILE_FAULTS,
 }
 SHOWN = 5
+SLICES = 5  # that a call reads, at most
 
 
 def parts(name, inputs):
-    """A call as serve.c takes it: two numbers, the four slices that are read, the buffer."""
+    """A call as serve.c takes it: the crew, two numbers, the slices that are read, the buffer."""
     if name == "record_at":
-        return (inputs[1], 0), (inputs[0], b"", b"", b""), b""
+        return 0, (inputs[1], 0), inputs[:1], b""
     if name == "check":
-        return (0, 0), (inputs[0], b"", b"", b""), b""
+        return 0, (0, 0), inputs, b""
     if name == "draw":
-        return inputs[:2], (b"", b"", b"", b""), inputs[2]
+        return 0, inputs[:2], (), inputs[2]
     if name == "write":
-        return (inputs[5], inputs[0]), inputs[1:5], inputs[6]
+        return 0, (inputs[0], 0), inputs[1:6], inputs[6]
+    file, crew, *rest = inputs
     if name == "report":
-        return inputs[1:3], (inputs[0], b"", b"", b""), inputs[3]
+        return crew, rest[:2], (file,), rest[2]
     if name == "chart":
-        return (0, 0), (*inputs, b""), b""
-    *read, buffer = inputs
-    return (0, 0), (*read, b"", b"", b"")[:4], buffer
+        return crew, (0, 0), (file, *rest), b""
+    *read, buffer = rest
+    return crew, (0, 0), (file, *read), buffer
 
 
 class Library:
@@ -75,8 +78,9 @@ class Library:
 
     def call(self, name, inputs):
         """The numbers, the buffer afterwards, whether guard bytes and inputs are whole, and the bytes of stack used."""
-        numbers, read, buffer = parts(name, inputs)
-        head = struct.pack("<8Q", NAMES.index(name), *numbers, *map(len, read), len(buffer))
+        crew, numbers, read, buffer = parts(name, inputs)
+        lengths = [*map(len, read), *[0] * SLICES][:SLICES]
+        head = struct.pack("<10Q", NAMES.index(name), crew, *numbers, *lengths, len(buffer))
         self.process.stdin.write(head + b"".join(read) + buffer)
         self.process.stdin.flush()
         *numbers, whole, stack = struct.unpack("<7Q", self.read(56))
@@ -119,10 +123,10 @@ def all_calls(seed, n, seen):
 def written_back(file):
     """The write of what a file says, if it loads: it has to give the same bytes."""
     try:
-        study = oracle.read(file)
+        roster = oracle.read(file)
     except oracle.Refused:
         return
-    yield "write", (*oracle.lists_of(study), b"\xaa" * len(file)), ((0, len(file), 0), file)
+    yield "write", (*oracle.lists_of(roster), b"\xaa" * len(file)), ((0, len(file), 0), file)
 
 
 def unmet(seen, names):

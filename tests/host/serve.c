@@ -1,9 +1,9 @@
 /* Makes the calls that it reads, one after another, until the input ends; tests/host/differential.py drives it.
  *
- * A call is eight numbers of eight bytes, least significant first: which call (the place in `enum` below), two numbers
- * (the place; or the seed and the count; or the first seed and how many; or the seed and the situation; else 0), the lengths
- * of the four slices that are read (the file and the ranks or plan; or the file, a chart's actions and its pairs; or
- * variables, actions, conditions and tasks; else 0) and of the buffer; then the bytes of these five.
+ * A call is ten numbers of eight bytes, least significant first: which call (the place in `enum` below), the crew, two
+ * numbers (the place; or the seed and the count; or the first seed and how many; or the situation; else 0), the lengths of
+ * the five slices that are read (the file and the ranks or plan; or the file, a chart's actions and its pairs; or variables,
+ * actions, conditions, crews and tasks; else 0) and of the buffer; then the bytes of these six.
  * An answer is the call's three or five numbers (five are written, the rest 0), then 1 if all guard bytes are whole and
  * what was lent to be read is as it was, else 0, then how many bytes of stack were used; then the buffer.
  *
@@ -16,10 +16,10 @@ long write(int to, const void *from, size_t len);
 void exit(int status) __attribute__((noreturn));
 
 enum { RECORD_AT, CHECK, PLAN, PLAN_SEEDED, RUN, DRAW, WRITE, REPORT, CHART };
-enum { READ = 4 };
+enum { READ = 5 };
 
 typedef struct {
-  uint64_t which, one, two, read_len[READ], buffer_len;
+  uint64_t which, crew, one, two, read_len[READ], buffer_len;
 } call;
 
 typedef struct {
@@ -41,15 +41,15 @@ static void make_call(void) {
     return;
   }
   if (c.which == CHECK) r = marrowkite_check(file.at, file.len);
-  if (c.which == PLAN) r = marrowkite_plan(file.at, file.len, list.at, list.len, buffer.at, buffer.len);
-  if (c.which == PLAN_SEEDED) r = marrowkite_plan_seeded(file.at, file.len, buffer.at, buffer.len);
-  if (c.which == RUN) r = marrowkite_run(file.at, file.len, list.at, list.len, buffer.at, buffer.len);
+  if (c.which == PLAN) r = marrowkite_plan(file.at, file.len, c.crew, list.at, list.len, buffer.at, buffer.len);
+  if (c.which == PLAN_SEEDED) r = marrowkite_plan_seeded(file.at, file.len, c.crew, buffer.at, buffer.len);
+  if (c.which == RUN) r = marrowkite_run(file.at, file.len, c.crew, list.at, list.len, buffer.at, buffer.len);
   if (c.which == DRAW) r = marrowkite_draw(c.one, c.two, buffer.at, buffer.len);
-  if (c.which == REPORT) r = marrowkite_report(file.at, file.len, c.one, c.two, buffer.at, buffer.len);
-  if (c.which == CHART) r = marrowkite_chart(file.at, file.len, list.at, list.len, in[2].at, in[2].len);
+  if (c.which == REPORT) r = marrowkite_report(file.at, file.len, c.crew, c.one, c.two, buffer.at, buffer.len);
+  if (c.which == CHART) r = marrowkite_chart(file.at, file.len, c.crew, list.at, list.len, in[2].at, in[2].len);
   if (c.which == WRITE)
-    r = marrowkite_write((uint8_t)c.two, in[0].at, in[0].len, in[1].at, in[1].len, in[2].at, in[2].len, in[3].at, in[3].len,
-                         (uint32_t)c.one, buffer.at, buffer.len);
+    r = marrowkite_write((uint8_t)c.one, in[0].at, in[0].len, in[1].at, in[1].len, in[2].at, in[2].len, in[3].at, in[3].len,
+                         in[4].at, in[4].len, buffer.at, buffer.len);
   memcpy(a.numbers, &r, sizeof r);
 }
 

@@ -1,5 +1,5 @@
 /* Document 01's seventeen worked cases through the exported calls, one line each, and what the cases leave open: calls one
- * after another, calls on several threads, single records, the generator's check number, files from lists, charts.
+ * after another, calls on several threads, single records, the generator's check number, files from lists, charts, crews.
  * Every buffer is lent between guard bytes. Each check below looks at all numbers, all bytes of the buffer, the inputs and
  * the guard bytes; a refused call has to leave the buffer as it was. */
 #include "lend.h"
@@ -102,22 +102,40 @@ static int check(bytes file, marrowkite_answer wanted) {
   return same(marrowkite_check(f.at, f.len), wanted) & kept(f, file);
 }
 
-static int plan(bytes file, bytes ranks, size_t room, marrowkite_answer wanted, bytes left) {
+static int plan_for(bytes file, uint64_t crew, bytes ranks, size_t room, marrowkite_answer wanted, bytes left) {
   lent f = lend(file), r = lend(ranks), buffer = lend_room(room);
-  return same(marrowkite_plan(f.at, f.len, r.at, r.len, buffer.at, buffer.len), wanted) & kept(f, file) &
+  return same(marrowkite_plan(f.at, f.len, crew, r.at, r.len, buffer.at, buffer.len), wanted) & kept(f, file) &
          kept(r, ranks) & holds_only(buffer, left);
 }
 
-static int plan_seeded(bytes file, size_t room, marrowkite_answer wanted, bytes left) {
+static int plan(bytes file, bytes ranks, size_t room, marrowkite_answer wanted, bytes left) {
+  return plan_for(file, 0, ranks, room, wanted, left);
+}
+
+static int seeded_for(bytes file, uint64_t crew, size_t room, marrowkite_answer wanted, bytes left) {
   lent f = lend(file), buffer = lend_room(room);
-  return same(marrowkite_plan_seeded(f.at, f.len, buffer.at, buffer.len), wanted) & kept(f, file) &
+  return same(marrowkite_plan_seeded(f.at, f.len, crew, buffer.at, buffer.len), wanted) & kept(f, file) &
          holds_only(buffer, left);
 }
 
-static int run(bytes file, bytes steps, size_t room, marrowkite_answer wanted, bytes left) {
+static int plan_seeded(bytes file, size_t room, marrowkite_answer wanted, bytes left) {
+  return seeded_for(file, 0, room, wanted, left);
+}
+
+static int run_for(bytes file, uint64_t crew, bytes steps, size_t room, marrowkite_answer wanted, bytes left) {
   lent f = lend(file), s = lend(steps), buffer = lend_room(room);
-  return same(marrowkite_run(f.at, f.len, s.at, s.len, buffer.at, buffer.len), wanted) & kept(f, file) &
+  return same(marrowkite_run(f.at, f.len, crew, s.at, s.len, buffer.at, buffer.len), wanted) & kept(f, file) &
          kept(s, steps) & holds_only(buffer, left);
+}
+
+static int run(bytes file, bytes steps, size_t room, marrowkite_answer wanted, bytes left) {
+  return run_for(file, 0, steps, room, wanted, left);
+}
+
+static int report_for(bytes file, uint64_t crew, uint64_t first, uint64_t n, size_t room, marrowkite_answer wanted, bytes left) {
+  lent f = lend(file), buffer = lend_room(room);
+  return same(marrowkite_report(f.at, f.len, crew, first, n, buffer.at, buffer.len), wanted) & kept(f, file) &
+         holds_only(buffer, left);
 }
 
 /* The porter's lists but for the tasks, in which the cart is to end at some value; with a situation, and a set of situations in
@@ -125,14 +143,17 @@ static int run(bytes file, bytes steps, size_t room, marrowkite_answer wanted, b
 #define PORTER_IN(situation, set)                                                                                      \
   situation, BYTES(2, 3, 2), BYTES(0, 0, 1, set, 0, 1, 0, 1, 255, 0, 1, 1, 2, 255, 2, 2, 0, 1, 255, 2, 0, 1, 0, 255, 0), BYTES(0, 1, 2, 1, 0, 1, 1, 1)
 #define PORTER_LISTS PORTER_IN(0, 255)
-#define TASKS(goal) BYTES(0, 0, 1, 1, 0, goal, 2, 0, 1)
+#define TASKS_TO(goal) 0, 0, 1, 1, 0, goal, 2, 0, 1
+#define TASKS(goal) BYTES(TASKS_TO(goal))
+#define CREW(seed) 3, 0, 0, 0, seed
 
-static int write_lists(uint8_t situation, bytes variables, bytes actions, bytes conditions, bytes tasks, uint32_t seed,
-                       size_t room, marrowkite_answer wanted, bytes left) {
-  lent v = lend(variables), a = lend(actions), c = lend(conditions), t = lend(tasks), buffer = lend_room(room);
+static int write_lists(uint8_t situation, bytes variables, bytes actions, bytes conditions, bytes crews, bytes tasks, size_t room,
+                       marrowkite_answer wanted, bytes left) {
+  lent v = lend(variables), a = lend(actions), c = lend(conditions), k = lend(crews), t = lend(tasks), buffer = lend_room(room);
   marrowkite_answer given =
-      marrowkite_write(situation, v.at, v.len, a.at, a.len, c.at, c.len, t.at, t.len, seed, buffer.at, buffer.len);
-  return same(given, wanted) & kept(v, variables) & kept(a, actions) & kept(c, conditions) & kept(t, tasks) & holds_only(buffer, left);
+      marrowkite_write(situation, v.at, v.len, a.at, a.len, c.at, c.len, k.at, k.len, t.at, t.len, buffer.at, buffer.len);
+  return same(given, wanted) & kept(v, variables) & kept(a, actions) & kept(c, conditions) & kept(k, crews) & kept(t, tasks) &
+         holds_only(buffer, left);
 }
 
 /* Two ways to load the cart, of which the second holds in situation 2 and in no other. */
@@ -145,9 +166,44 @@ static int write_lists(uint8_t situation, bytes variables, bytes actions, bytes 
 #define CHAIN(first, second) BYTES(first, second, second, 3, 3, 2)
 #define TOO_LONG(len) ((bytes){(const uint8_t[len]){0}, len})
 
-static int chart(bytes file, bytes actions, bytes pairs, marrowkite_answer wanted) {
+static int chart_for(bytes file, uint64_t crew, bytes actions, bytes pairs, marrowkite_answer wanted) {
   lent f = lend(file), a = lend(actions), p = lend(pairs);
-  return same(marrowkite_chart(f.at, f.len, a.at, a.len, p.at, p.len), wanted) & kept(f, file) & kept(a, actions) & kept(p, pairs);
+  return same(marrowkite_chart(f.at, f.len, crew, a.at, a.len, p.at, p.len), wanted) & kept(f, file) & kept(a, actions) &
+         kept(p, pairs);
+}
+
+static int chart(bytes file, bytes actions, bytes pairs, marrowkite_answer wanted) {
+  return chart_for(file, 0, actions, pairs, wanted);
+}
+
+/* The porter as crew 0, and a crew 1 that brings the pass back and fetches the cart. */
+#define TWO_CREWS                                                                                                       \
+  BYTES(PORTER_TABLE, TASK(0, 0, 1), TASK(1, 0, 2), TASK(2, 0, 1), SEED_1, 9, TASK(0, 1, 0), TASK(1, 0, 1), TASK(2, 0, 0), \
+        5, 0, 0, 0, 2, END)
+#define SECOND_CREW_WITHOUT_SEED                                                                                        \
+  BYTES(PORTER_TABLE, TASK(0, 0, 1), TASK(1, 0, 2), TASK(2, 0, 1), SEED_1, 9, TASK(0, 1, 0), TASK(1, 0, 1), TASK(2, 0, 0), END)
+
+/* What every call that names a crew says of one that is not there, lent nothing that would do. */
+static int not_there(bytes file, uint64_t crew) {
+  return plan_for(file, crew, NOTHING, 0, REFUSED(22, crew, 0)) & seeded_for(file, crew, 8, REFUSED(22, crew, 0)) &
+         run_for(file, crew, BYTES(255), 0, REFUSED(22, crew, 0)) & report_for(file, crew, 0, 0, 0, REFUSED(22, crew, 0)) &
+         chart_for(file, crew, TOO_LONG(257), NOTHING, ANSWER(22, crew, 0));
+}
+
+static int crews(void) {
+  return check(TWO_CREWS, DONE(5, 3)) & plan_for(TWO_CREWS, 0, RISING, 8, DONE(4, 0), BYTES(0, 1, 3, 2)) &
+         plan_for(TWO_CREWS, 1, RISING, 8, DONE(2, 0), BYTES(1, 4)) &
+         plan_for(TWO_CREWS, 1, BYTES(4, 3, 2, 1, 0), 8, DONE(2, 0), BYTES(4, 1)) &
+         seeded_for(TWO_CREWS, 0, 8, DONE(4, 0), BYTES(1, 0, 3, 2)) &
+         run_for(TWO_CREWS, 1, BYTES(4, 1), 8, DONE(3, 0), BYTES(0, 1, 0)) &
+         run_for(TWO_CREWS, 0, BYTES(4, 1), 8, REFUSED(15, 0, 0)) &
+         report_for(TWO_CREWS, 1, 1, 1, 4, REFUSED(13, 15, 0)) & chart_for(TWO_CREWS, 1, BYTES(1, 4), NOTHING, DONE(2, 0)) &
+         chart_for(TWO_CREWS, 0, BYTES(1, 4), NOTHING, ANSWER(25, 0, 0)) & not_there(TWO_CREWS, 2) & not_there(PORTER, 1) &
+         not_there(TWO_CREWS, 8) & not_there(TWO_CREWS, 255) & not_there(TWO_CREWS, 1ul << 32) & not_there(TWO_CREWS, ~0ul) &
+         check(SECOND_CREW_WITHOUT_SEED, ANSWER(3, 68, 0)) & seeded_for(SECOND_CREW_WITHOUT_SEED, 0, 8, REFUSED(3, 68, 0)) &
+         seeded_for(SECOND_CREW_WITHOUT_SEED, 9, 8, REFUSED(3, 68, 0)) &
+         write_lists(PORTER_LISTS, BYTES(CREW(1), CREW(2)), BYTES(TASKS_TO(2), 0, 1, 0, 1, 0, 1, 2, 0, 0), 80, DONE(74, 0), TWO_CREWS) &
+         write_lists(PORTER_LISTS, BYTES(CREW(1), CREW(0)), BYTES(TASKS_TO(2), TASKS_TO(2)), 80, REFUSED(5, 68, 0));
 }
 
 static int draw(uint64_t seed, uint64_t count, size_t room, marrowkite_answer wanted, bytes left) {
@@ -225,8 +281,8 @@ static int charts_in_a_row(void) {
   static const uint8_t listed[] = {0, 1, 2, 3}, orders[] = {ORDERS};
   const uint8_t *file = porter_of_the_document;
   size_t len = sizeof porter_of_the_document;
-  marrowkite_answer given = marrowkite_chart(file, len, listed, sizeof listed, orders, sizeof orders);
-  marrowkite_answer lacking = marrowkite_chart(file, len, listed, sizeof listed, orders, 8);
+  marrowkite_answer given = marrowkite_chart(file, len, 0, listed, sizeof listed, orders, sizeof orders);
+  marrowkite_answer lacking = marrowkite_chart(file, len, 0, listed, sizeof listed, orders, 8);
   return given.number == 0 && given.first == 4 && given.second == 5 && lacking.number == 28 && lacking.first == 3 && lacking.second == 2;
 }
 
@@ -298,16 +354,17 @@ int main(void) {
   report("case 17, draws at the edges", draw(2147483646, 1, 8, DONE(2147483646, 0), BYTES(0)) &
                                             draw(2147483647, 1, 8, REFUSED(18, 2147483647, 0)) & draw_of_256() &
                                             draw(1, 257, ROOM, REFUSED(19, 257, 0)));
-  report("files from lists", write_lists(PORTER_LISTS, TASKS(2), 1, 60, DONE(56, 0), porter) &
-                                 write_lists(PORTER_LISTS, TASKS(2), 1, 56, DONE(56, 0), porter) &
-                                 write_lists(PORTER_LISTS, TASKS(2), 1, 55, REFUSED(13, 56, 0)) &
-                                 write_lists(PORTER_LISTS, TASKS(2), 0, 60, REFUSED(5, 50, 0)) &
-                                 write_lists(PORTER_LISTS, TASKS(3), 1, 60, REFUSED(5, 42, 0)) &
-                                 write_lists(PORTER_LISTS, NOTHING, 1, 60, REFUSED(3, 38, 0)) &
-                                 write_lists(0, NOTHING, NOTHING, NOTHING, NOTHING, 1, 60, REFUSED(3, 0, 0)));
-  report("situations", write_lists(PORTER_IN(8, 255), TASKS(2), 1, 60, REFUSED(5, 0, 0)) &
-                           write_lists(PORTER_IN(7, 255), TASKS(2), 1, 57, REFUSED(13, 58, 0)) &
-                           write_lists(PORTER_IN(7, 127), TASKS(2), 1, 59, REFUSED(13, 60, 0)) &
+  report("files from lists", write_lists(PORTER_LISTS, BYTES(CREW(1)), TASKS(2), 60, DONE(56, 0), porter) &
+                                 write_lists(PORTER_LISTS, BYTES(CREW(1)), TASKS(2), 56, DONE(56, 0), porter) &
+                                 write_lists(PORTER_LISTS, BYTES(CREW(1)), TASKS(2), 55, REFUSED(13, 56, 0)) &
+                                 write_lists(PORTER_LISTS, BYTES(CREW(0)), TASKS(2), 60, REFUSED(5, 50, 0)) &
+                                 write_lists(PORTER_LISTS, BYTES(CREW(1)), TASKS(3), 60, REFUSED(5, 42, 0)) &
+                                 write_lists(PORTER_LISTS, NOTHING, NOTHING, 60, REFUSED(3, 38, 0)) &
+                                 write_lists(PORTER_LISTS, NOTHING, TASKS(2), 60, REFUSED(5, 50, 0)) &
+                                 write_lists(0, NOTHING, NOTHING, NOTHING, NOTHING, NOTHING, 60, REFUSED(3, 0, 0)));
+  report("situations", write_lists(PORTER_IN(8, 255), BYTES(CREW(1)), TASKS(2), 60, REFUSED(5, 0, 0)) &
+                           write_lists(PORTER_IN(7, 255), BYTES(CREW(1)), TASKS(2), 57, REFUSED(13, 58, 0)) &
+                           write_lists(PORTER_IN(7, 127), BYTES(CREW(1)), TASKS(2), 59, REFUSED(13, 60, 0)) &
                            check(NIGHT_PORTER(1, 6), DONE(2, 1)) & check(NIGHT_PORTER(2, 6), ANSWER(7, 10, 0)) &
                            plan(NIGHT_PORTER(1, 2), BYTES(0, 1), 8, DONE(1, 0), BYTES(0)) &
                            plan(NIGHT_PORTER(2, 1), BYTES(0, 1), 8, DONE(1, 0), BYTES(1)) &
@@ -326,9 +383,11 @@ int main(void) {
                        chart(PORTER, TOO_LONG(256), TOO_LONG(8192), ANSWER(25, 0, 0)) &
                        chart(RING_WANTING(1), BYTES(0, 1), BYTES(0, 1), ANSWER(12, 0, 0)) &
                        chart(PORTER_WITHOUT_SEED, NOTHING, NOTHING, ANSWER(5, 50, 0)));
+  report("crews", crews());
   report("single records", record_at(PORTER, 18, (marrowkite_record){0, 3, 19, 2, 21}) &
                                record_at(PORTER, 55, (marrowkite_record){0, 6, 56, 0, 56}) &
                                record_at(PORTER, 0, (marrowkite_record){0, 1, 1, 1, 2}) &
+                               record_at(TWO_CREWS, 55, (marrowkite_record){0, 9, 56, 0, 56}) &
                                record_at(PORTER, 7, (marrowkite_record){2, 0, 7, 0, 7}) &
                                record_at(PORTER, 56, (marrowkite_record){1, 0, 56, 0, 56}) &
                                record_at(PORTER, ~0ul, (marrowkite_record){1, 0, 56, 0, 56}) &

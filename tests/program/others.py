@@ -20,7 +20,7 @@ def main():
     rng = random.Random(5)
     for number in range(40):
         kind = number % 8
-        data = FILES[kind](rng) if kind < 2 else oracle.file_of(STUDIES[kind - 2](rng))
+        data = FILES[kind](rng) if kind < 2 else oracle.file_of(oracle.crewed(rng, STUDIES[kind - 2](rng))[0])
         Path(folder, f"other-{number}.bin").write_bytes(data)
         Path(folder, f"other-{number}.out").write_text(oracle.printed(data))
 

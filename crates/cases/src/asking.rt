@@ -4,7 +4,7 @@
 //     record AT           the record at a place, and its body
 //     records             each record, found by the reader behind the one before it, up to the end record or a refusal
 //     number STEPS SEED   the generator's number after so many steps
-//     chart F A           of the file's bytes F are the file, A behind them the listed actions, and the rest the pairs
+//     chart CREW F A      of the file's bytes F are the file, A behind them the listed actions, and the rest the pairs
 use crate::show;
 use crate::words::front;
 use crate::words::number;
@@ -32,15 +32,22 @@ pub(crate) fn ask(word: u64, line: &[u8], file: &[u8]) -> bool {
         RECORD => record(file, number(line, 1) as usize),
         RECORDS => records(file),
         NUMBER => generator(number(line, 1), number(line, 2)),
-        CHART => show::answers(chart(file, number(line, 1) as usize, number(line, 2) as usize)),
+        CHART => show::answers(chart(line, file)),
         _ => return false,
     }
     true
 }
 
-fn chart(bytes: &[u8], len: usize, listed: usize) -> Answer {
+fn chart(line: &[u8], bytes: &[u8]) -> Answer {
+    let len = number(line, 2) as usize;
+    let listed = number(line, 3) as usize;
     let lists = rest(bytes, len);
-    charter::chart(front(bytes, len), front(lists, listed), rest(lists, listed))
+    charter::chart(
+        front(bytes, len),
+        number(line, 1),
+        front(lists, listed),
+        rest(lists, listed),
+    )
 }
 
 fn generator(steps: u64, seed: u64) {

@@ -1,12 +1,12 @@
 // Calls that are lent the front of the buffer. The first argument is how many bytes.
 //
-//     plan ROOM RANKS
-//     seeded ROOM            plan with the file's seed
-//     run ROOM LIST
+//     plan ROOM CREW RANKS
+//     seeded ROOM CREW       plan with the crew's seed
+//     run ROOM CREW LIST
 //     draw ROOM SEED COUNT
-//     write ROOM SEED SITUATION V A C T   a file from lists, which are the file's bytes: V of variables, then A of actions,
-//                                         C of conditions, T of tasks
-//     report ROOM FIRST COUNT   on so many seeds from a first one on
+//     write ROOM SITUATION V A C K T   a file from lists, which are the file's bytes: V of variables, then A of actions,
+//                                      C of conditions, K of crews, T of tasks
+//     report ROOM CREW FIRST COUNT   on so many seeds from a first one on
 use crate::show;
 use crate::words::bytes;
 use crate::words::front;
@@ -32,7 +32,7 @@ const REPORT: u64 = 0x7265706f7274;
 // Makes the call of this word, if it is one of these, and answers whether it is.
 pub(crate) fn lend(word: u64, line: &[u8], file: &[u8], buffer: &mut [u8]) -> bool {
     let mut list = [0u8; 320];
-    let n = bytes(line, 2, &mut list, 0);
+    let n = bytes(line, 3, &mut list, 0);
     let room = least(least(number(line, 1), 264), buffer.len() as u64) as usize;
     lend_first(word, line, file, front(&list, n), buffer, room)
 }
@@ -63,28 +63,39 @@ fn lend_first(
 
 fn call(word: u64, line: &[u8], file: &[u8], list: &[u8], room: &mut [u8]) -> bool {
     match word {
-        PLAN => show::answers(planner::plan(file, list, room)),
-        SEEDED => show::answers(planner::plan_seeded(file, room)),
-        RUN => show::answers(running::run(file, list, room)),
+        PLAN => show::answers(planner::plan(file, number(line, 2), list, room)),
+        SEEDED => show::answers(planner::plan_seeded(file, number(line, 2), room)),
+        RUN => show::answers(running::run(file, number(line, 2), list, room)),
         DRAW => show::answers(draw::draw(number(line, 2), number(line, 3), room)),
         WRITE => show::answers(write(line, file, room)),
-        REPORT => show::answers(reporter::report(file, number(line, 2), number(line, 3), room)),
+        REPORT => show::answers(report(line, file, room)),
         _ => return false,
     }
     true
 }
 
+fn report(line: &[u8], file: &[u8], room: &mut [u8]) -> Answer {
+    reporter::report(
+        file,
+        number(line, 2),
+        number(line, 3),
+        number(line, 4),
+        room,
+    )
+}
+
 fn write(line: &[u8], file: &[u8], room: &mut [u8]) -> Answer {
-    let actions = rest(file, number(line, 4) as usize);
-    let conditions = rest(actions, number(line, 5) as usize);
-    let tasks = rest(conditions, number(line, 6) as usize);
+    let actions = rest(file, number(line, 3) as usize);
+    let conditions = rest(actions, number(line, 4) as usize);
+    let crews = rest(conditions, number(line, 5) as usize);
+    let tasks = rest(crews, number(line, 6) as usize);
     writer::write(
-        (number(line, 3) % 256) as u8,
-        front(file, number(line, 4) as usize),
-        front(actions, number(line, 5) as usize),
-        front(conditions, number(line, 6) as usize),
+        (number(line, 2) % 256) as u8,
+        front(file, number(line, 3) as usize),
+        front(actions, number(line, 4) as usize),
+        front(conditions, number(line, 5) as usize),
+        front(crews, number(line, 6) as usize),
         front(tasks, number(line, 7) as usize),
-        (number(line, 2) % 4294967296) as u32,
         room,
     )
 }

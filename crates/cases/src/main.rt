@@ -24,7 +24,7 @@ const CASE: u64 = 0x23;
 const FILE: u64 = 0x66696c65;
 
 // One byte more than the longest file has.
-const ROOM: usize = 25545;
+const ROOM: usize = 26483;
 
 fn main() {
     let mut text = [0u8; 524288];

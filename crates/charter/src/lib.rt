@@ -217,13 +217,13 @@ fn plan_aside(
 }
 
 // Checks a chart: a list of actions and pairs, this before that. Nothing is written.
-pub fn chart(file: &[u8], actions: &[u8], pairs: &[u8]) -> Answer
-    ensures { λ r. ⌜ ChartAllows (now (file .entry)) (now (actions .entry)) (now (pairs .entry)) r ⌝ }
+pub fn chart(file: &[u8], crew: u64, actions: &[u8], pairs: &[u8]) -> Answer
+    ensures { λ r. ⌜ ChartAllows (now (file .entry)) crew (now (actions .entry)) (now (pairs .entry)) r ⌝ }
 {
     let mut acts = [[0u8; 6]; 256];
     let mut vars = [[0u8; 3]; 32];
     let mut setters = [0u8; 512];
-    let found = loader::load(file, &mut acts, &mut vars, &mut setters);
+    let found = mustering::load_for(file, crew, &mut acts, &mut vars, &mut setters);
     let Loaded::Study {
         vars: n,
         actions: count,

@@ -11,9 +11,9 @@ use Rattle.answer.specs.Answers.{three, done, refusal}
 use Rattle.answer.specs.Allowing.{SettlesOne, AnswersOne}
 use Rattle.answer.specs.declared.Answer.{Answer}
 use Rattle.study.specs.Study.{Study}
-use Rattle.study.specs.Reading.{Said, says, refused, reading}
+use Rattle.study.specs.Reading.{Said, says, refused, readingFor}
 use Rattle.lawful.specs.Lawful.{Lawful}
-use Rattle.lawful.proofs.Loads.{LawfulIfSaid, reading-lawful}
+use Rattle.lawful.proofs.Loads.{LawfulIfHeard, hearing-lawful}
 use Rattle.plans.specs.Plans.{Usable}
 use Rattle.planning.proofs.Ways.{Barred, without, off, on-ring, barred-has-none}
 use Rattle.planning.proofs.Determined.{barred-determined}
@@ -203,16 +203,16 @@ module _ (t : Study) (c : Chart) where
 
 -- ---- files
 
-charts-file-determined : (said : Said) → LawfulIfSaid said → (c : Chart) → SettlesOne (ChartsFile said c)
+charts-file-determined : (said : Said Study) → LawfulIfHeard said → (c : Chart) → SettlesOne (ChartsFile said c)
 charts-file-determined (says t) lawful c = charts-determined t c lawful
 charts-file-determined (refused number place) lawful c = λ r s p q. p ∙ sym q
 
-charts-file-answered : (said : Said) → LawfulIfSaid said → (c : Chart) → AnswersOne (ChartsFile said c)
+charts-file-answered : (said : Said Study) → LawfulIfHeard said → (c : Chart) → AnswersOne (ChartsFile said c)
 charts-file-answered (says t) lawful c = charts-answered t c lawful
 charts-file-answered (refused number place) lawful c = record { answer = refusal number place; allowed = refl }
 
-pub chart-settled : (file actions pairs : List ℕ) → SettlesOne (ChartAllows file actions pairs)
-chart-settled file actions pairs = charts-file-determined (reading file) (reading-lawful file) (chartOf actions pairs)
+pub chart-settled : (file : List ℕ) (crew : ℕ) (actions pairs : List ℕ) → SettlesOne (ChartAllows file crew actions pairs)
+chart-settled file crew actions pairs = charts-file-determined (readingFor file crew) (hearing-lawful file crew) (chartOf actions pairs)
 
-pub chart-answered : (file actions pairs : List ℕ) → AnswersOne (ChartAllows file actions pairs)
-chart-answered file actions pairs = charts-file-answered (reading file) (reading-lawful file) (chartOf actions pairs)
+pub chart-answered : (file : List ℕ) (crew : ℕ) (actions pairs : List ℕ) → AnswersOne (ChartAllows file crew actions pairs)
+chart-answered file crew actions pairs = charts-file-answered (readingFor file crew) (hearing-lawful file crew) (chartOf actions pairs)

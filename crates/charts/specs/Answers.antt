@@ -7,7 +7,7 @@ use lib.ListN.{length}
 use Rattle.answer.specs.Answers.{three, done, refusal}
 use Rattle.answer.specs.declared.Answer.{Answer}
 use Rattle.study.specs.Study.{Study}
-use Rattle.study.specs.Reading.{Said, says, refused, reading}
+use Rattle.study.specs.Reading.{Said, says, refused, readingFor}
 use Rattle.plans.specs.Plans.{StraightPlan}
 use Rattle.orders.specs.Orders.{OnRing}
 use Rattle.walks.specs.Walks.{OnAWalk, ComesBefore, Walks, Met}
@@ -68,10 +68,10 @@ pub data Charts (t : Study) (c : Chart) : Answer → Type 0 where
   lacking : {i j : ℕ} → Uncircled t c → LowestLacking t (c .pairs) i j → Charts t c (three 28 i j)
   fine : Uncircled t c → NoneLacking t (c .pairs) → Charts t c (done (length (c .actions)) (length (c .pairs)))
 
--- what checking a chart of what a file says may answer, and so of a file
-abbrev pub ChartsFile : Said → Chart → Answer → Type 0
+-- what checking a chart of what a file says to a crew may answer, and so of a file and a crew
+abbrev pub ChartsFile : Said Study → Chart → Answer → Type 0
 ChartsFile (says t) c r = Charts t c r
 ChartsFile (refused number place) c r = r ≡ refusal number place
 
-abbrev pub ChartAllows : List ℕ → List ℕ → List ℕ → Answer → Type 0
-ChartAllows file actions pairs = ChartsFile (reading file) (chartOf actions pairs)
+abbrev pub ChartAllows : List ℕ → ℕ → List ℕ → List ℕ → Answer → Type 0
+ChartAllows file crew actions pairs = ChartsFile (readingFor file crew) (chartOf actions pairs)

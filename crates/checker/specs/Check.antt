@@ -6,10 +6,11 @@ use Prim.Native.Nat.{ℕ}
 use lib.ListN.{length}
 use Rattle.answer.specs.Answers.{done, refusal}
 use Rattle.answer.specs.declared.Answer.{Answer}
+use Rattle.study.specs.Study.{Roster}
 use Rattle.study.specs.Reading.{Said, says, refused, reading}
 
-abbrev pub checkAnswer : Said → Answer
-checkAnswer (says s) = done (length (s .actions)) (length (s .counts))
+abbrev pub checkAnswer : Said Roster → Answer
+checkAnswer (says r) = done (length (r .actions)) (length (r .counts))
 checkAnswer (refused number place) = refusal number place
 
 -- what checking a file may answer; it is lent no bytes to write

@@ -1,7 +1,7 @@
 // Checks a study file.
 ghost use Rattle.checker.specs.Check.{CheckAllows};
 use answer::Answer;
-use tables::Loaded;
+use tables::Read;
 
 // Answer 0 gives how many actions and how many variables.
 pub fn check(file: &[u8]) -> Answer
@@ -10,18 +10,19 @@ pub fn check(file: &[u8]) -> Answer
     let mut acts = [[0u8; 6]; 256];
     let mut vars = [[0u8; 3]; 32];
     let mut setters = [0u8; 512];
-    let loaded = loader::load(file, &mut acts, &mut vars, &mut setters);
-    match loaded {
-        Loaded::Study {
+    let mut crews = [0u16; 8];
+    let read = loader::load(file, &mut acts, &mut vars, &mut setters, &mut crews);
+    match read {
+        Read::Roster {
             vars,
             actions,
-            seed: _,
+            crews: _,
         } => Answer {
             number: 0,
             first: actions as u64,
             second: vars as u64,
         },
-        Loaded::Refused { number, place } => Answer {
+        Read::Refused { number, place } => Answer {
             number: number as u64,
             first: place as u64,
             second: 0,

@@ -12,19 +12,20 @@ use Rattle.plain.specs.Choose.{pick}
 use Rattle.answer.specs.declared.Answer.{Answer}
 use Rattle.answer.specs.Answers.{done, refusal}
 use Rattle.answer.specs.Allowing.{Exactly}
+use Rattle.study.specs.Study.{Roster}
 use Rattle.study.specs.Reading.{Said, says, refused, reading}
 use Rattle.study.proofs.Refusals.{numbered-some, refusals-numbered}
 use Rattle.spelling.specs.Lists.{fileOf}
 use Rattle.spelling.specs.Lent.{lent}
 use Rattle.spelling.specs.Write.{Writes, WriteAllows}
-use Rattle.compose.specs.Input.{seedIn, situationIn, actionsAt, conditionsAt, tasksAt, endAt, between, variablesIn, actionsIn, conditionsIn, tasksIn}
+use Rattle.compose.specs.Input.{situationIn, actionsAt, conditionsAt, crewsAt, tasksAt, endAt, between, variablesIn, actionsIn, conditionsIn, crewsIn, tasksIn}
 
 pub handed :
-    (input before after : List ℕ) (r : Answer) (a b c d s : ℕ)
-    → a ≡ actionsAt input → b ≡ conditionsAt input → c ≡ tasksAt input → d ≡ endAt input → s ≡ seedIn input
-    → WriteAllows (situationIn input) (between 13 a input) (between a b input) (between b c input) (between c d input) s before r after
-    → WriteAllows (situationIn input) (variablesIn input) (actionsIn input) (conditionsIn input) (tasksIn input) (seedIn input) before r after
-handed input before after r a b c d s ea eb ec ed es w = rw (ea, eb, ec, ed, es) at w
+    (input before after : List ℕ) (r : Answer) (a b c d e : ℕ)
+    → a ≡ actionsAt input → b ≡ conditionsAt input → c ≡ crewsAt input → d ≡ tasksAt input → e ≡ endAt input
+    → WriteAllows (situationIn input) (between 11 a input) (between a b input) (between b c input) (between c d input) (between d e input) before r after
+    → WriteAllows (situationIn input) (variablesIn input) (actionsIn input) (conditionsIn input) (crewsIn input) (tasksIn input) before r after
+handed input before after r a b c d e ea eb ec ed ee w = rw (ea, eb, ec, ed, ee) at w
 
 -- ---- what answer 0 says
 
@@ -36,15 +37,15 @@ fits file before r after true test zero w = omega (arith, ap (λ (x : Answer). x
 fits file before r after false test zero w = absurd (omega (arith, ap (λ (x : Answer). x .number) (w .0)))
 
 fits-said :
-    (file before : List ℕ) (said : Said) → reading file ≡ said → (r : Answer) (after : List ℕ) → r .number ≡ 0
+    (file before : List ℕ) (said : Said Roster) → reading file ≡ said → (r : Answer) (after : List ℕ) → r .number ≡ 0
     → Writes said file before r after → r .first ≤ length before
 fits-said file before (refused number place) e r after zero w =
     absurd (omega (arith, ap (λ (x : Answer). x .number) (w .0), numbered-some (rw e at (refusals-numbered file))))
-fits-said file before (says study) e r after zero w = fits file before r after (leb (length file) (length before)) refl zero w
+fits-said file before (says roster) e r after zero w = fits file before r after (leb (length file) (length before)) refl zero w
 
 pub written-fits :
-    (situation : ℕ) (variables actions conditions tasks : List ℕ) (seed : ℕ) (before : List ℕ) (r : Answer) (after : List ℕ) → r .number ≡ 0
-    → WriteAllows situation variables actions conditions tasks seed before r after → r .first ≤ length before
-written-fits situation variables actions conditions tasks seed before r after zero w =
-    let file = fileOf (lent situation variables actions conditions tasks seed) in
+    (situation : ℕ) (variables actions conditions crews tasks before : List ℕ) (r : Answer) (after : List ℕ) → r .number ≡ 0
+    → WriteAllows situation variables actions conditions crews tasks before r after → r .first ≤ length before
+written-fits situation variables actions conditions crews tasks before r after zero w =
+    let file = fileOf (lent situation variables actions conditions crews tasks) in
     fits-said file before (reading file) refl r after zero w

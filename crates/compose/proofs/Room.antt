@@ -13,6 +13,7 @@ use Rattle.plain.specs.Choose.{pick}
 use Rattle.answer.specs.declared.Answer.{Answer}
 use Rattle.answer.specs.Answers.{done, refusal}
 use Rattle.answer.specs.Allowing.{Exactly}
+use Rattle.study.specs.Study.{Roster}
 use Rattle.study.specs.Reading.{Said, says, refused, reading}
 use Rattle.lawful.specs.Lengths.{longestFile}
 use Rattle.lawful.proofs.Lengths.{loads-short}
@@ -33,16 +34,16 @@ fault-not-13 (inl h) e = omega arith
 fault-not-13 (inr h) e = omega arith
 
 roomy-said :
-    (l : Lists) (before : List ℕ) (said : Said) → reading (fileOf l) ≡ said → longestFile ≤ length before → (r : Answer) (after : List ℕ)
+    (l : Lists) (before : List ℕ) (said : Said Roster) → reading (fileOf l) ≡ said → longestFile ≤ length before → (r : Answer) (after : List ℕ)
     → Writes said (fileOf l) before r after → r .number ≢ 13
 roomy-said l before (refused number place) e room r after w thirteen =
     fault-not-13 (written-never-1-2-8 l number place e) (omega (arith, ap (λ (x : Answer). x .number) (w .0)))
-roomy-said l before (says study) e room r after w thirteen =
-    omega (arith, roomy (fileOf l) before r after _ refl (omega (arith, loads-short (fileOf l) study e)) w)
+roomy-said l before (says roster) e room r after w thirteen =
+    omega (arith, roomy (fileOf l) before r after _ refl (omega (arith, loads-short (fileOf l) roster e)) w)
 
 pub never-13 :
-    (situation : ℕ) (variables actions conditions tasks : List ℕ) (seed : ℕ) (before : List ℕ) → longestFile ≤ length before → (r : Answer) (after : List ℕ)
-    → WriteAllows situation variables actions conditions tasks seed before r after → r .number ≢ 13
-never-13 situation variables actions conditions tasks seed before room r after w thirteen =
-    let l = lent situation variables actions conditions tasks seed in
+    (situation : ℕ) (variables actions conditions crews tasks before : List ℕ) → longestFile ≤ length before → (r : Answer) (after : List ℕ)
+    → WriteAllows situation variables actions conditions crews tasks before r after → r .number ≢ 13
+never-13 situation variables actions conditions crews tasks before room r after w thirteen =
+    let l = lent situation variables actions conditions crews tasks in
     roomy-said l before (reading (fileOf l)) refl room r after w thirteen

@@ -1,4 +1,4 @@
--- Demand 1, a refused call alters nothing: with any number but 0 no lent byte is altered. One theorem for each call that lends a buffer, for every input; a file that is refused is an input too.
+-- Demand 1, a refused call alters nothing: with any number but 0 no lent byte is altered. One theorem for each call that lends a buffer, for every input; a file that is refused is an input too, and so is a crew that is not there.
 -- Assumes nothing.
 use mathlib.Core.Path.{ap}
 use mathlib.Core.Option.{Option, none, some}
@@ -10,7 +10,8 @@ use Rattle.answer.specs.Answers.{done}
 use Rattle.answer.specs.Allowing.{Exactly, RefusalAltersNothing}
 use Rattle.spelling.specs.Write.{WriteAllows}
 use Rattle.spelling.proofs.Settled.{write-unaltered}
-use Rattle.study.specs.Reading.{Said, says, refused, reading}
+use Rattle.study.specs.Study.{Study}
+use Rattle.study.specs.Reading.{Said, says, refused, readingFor}
 use Rattle.draw.specs.Draw.{drawnLast, answerBy, bytesBy, DrawAllows}
 use Rattle.draw.specs.Draw.{refused as notDrawn}
 use Rattle.runs.specs.Run.{Ran, endsIn, stops, ran, runAnswer, runLeaves, RunAllows}
@@ -20,7 +21,7 @@ use Rattle.planning.proofs.Exact.{refusal-alters-nothing}
 use Rattle.varied.specs.Report.{ReportAllows}
 use Rattle.varied.proofs.Settled.{report-unaltered}
 
-said-unaltered : (said : Said) (ranks before : List ℕ) → RefusalAltersNothing (PlansFile said ranks before) before
+said-unaltered : (said : Said Study) (ranks before : List ℕ) → RefusalAltersNothing (PlansFile said ranks before) before
 said-unaltered (says t) ranks before r after p h = refusal-alters-nothing p h
 said-unaltered (refused number place) ranks before r after p h = p .1
 
@@ -36,22 +37,26 @@ draw-unaltered (some a) last list before r after p h = p .1
 
 -- ---- the theorems
 
-pub refused-plan-alters-nothing : (file ranks before : List ℕ) → RefusalAltersNothing (PlanAllows file ranks before) before
-refused-plan-alters-nothing file = said-unaltered (reading file)
+pub refused-plan-alters-nothing :
+    (file : List ℕ) (crew : ℕ) (ranks before : List ℕ) → RefusalAltersNothing (PlanAllows file crew ranks before) before
+refused-plan-alters-nothing file crew = said-unaltered (readingFor file crew)
 
-pub refused-seeded-plan-alters-nothing : (file before : List ℕ) → RefusalAltersNothing (SeededAllows file before) before
-refused-seeded-plan-alters-nothing file = refused-plan-alters-nothing file (seedRanks (reading file))
+pub refused-seeded-plan-alters-nothing :
+    (file : List ℕ) (crew : ℕ) (before : List ℕ) → RefusalAltersNothing (SeededAllows file crew before) before
+refused-seeded-plan-alters-nothing file crew = refused-plan-alters-nothing file crew (seedRanks (readingFor file crew))
 
-pub refused-run-alters-nothing : (file list before : List ℕ) → RefusalAltersNothing (RunAllows file list before) before
-refused-run-alters-nothing file list before = run-unaltered (ran (reading file) (length before) list) before
+pub refused-run-alters-nothing :
+    (file : List ℕ) (crew : ℕ) (list before : List ℕ) → RefusalAltersNothing (RunAllows file crew list before) before
+refused-run-alters-nothing file crew list before = run-unaltered (ran (readingFor file crew) (length before) list) before
 
 pub refused-draw-alters-nothing : (seed count : ℕ) (before : List ℕ) → RefusalAltersNothing (DrawAllows seed count before) before
 refused-draw-alters-nothing seed count before = draw-unaltered (notDrawn seed count (length before)) (drawnLast seed count) _ before
 
 pub refused-write-alters-nothing :
-    (situation : ℕ) (variables actions conditions tasks : List ℕ) (seed : ℕ) (before : List ℕ)
-    → RefusalAltersNothing (WriteAllows situation variables actions conditions tasks seed before) before
+    (situation : ℕ) (variables actions conditions crews tasks before : List ℕ)
+    → RefusalAltersNothing (WriteAllows situation variables actions conditions crews tasks before) before
 refused-write-alters-nothing = write-unaltered
 
-pub refused-report-alters-nothing : (file : List ℕ) (first n : ℕ) (before : List ℕ) → RefusalAltersNothing (ReportAllows file first n before) before
+pub refused-report-alters-nothing :
+    (file : List ℕ) (crew first n : ℕ) (before : List ℕ) → RefusalAltersNothing (ReportAllows file crew first n before) before
 refused-report-alters-nothing = report-unaltered

@@ -1,4 +1,4 @@
--- Demand 2, the list in the buffer is run: what planning leaves in the buffer with answer 0, run on the same file, is answered 0, and the state then left is the goal.
+-- Demand 2, the list in the buffer is run: what planning leaves in the buffer with answer 0, run on the same file for the same crew, is answered 0, and the state then left is the goal.
 -- Assumes nothing.
 use Prim.Native.Nat.{ℕ, _≤_}
 use native.Mathlib.Omega.{arith}
@@ -9,10 +9,10 @@ use lib.Seq.{take-at}
 use Rattle.answer.specs.declared.Answer.{Answer}
 use Rattle.answer.specs.Answers.{done}
 use Rattle.study.specs.Study.{Study}
-use Rattle.study.specs.Reading.{Said, says, refused, reading}
-use Rattle.study.proofs.Refusals.{NumberedIfRefused, numbered-some, refusals-numbered}
+use Rattle.study.specs.Reading.{Said, says, refused, readingFor}
+use Rattle.study.proofs.Refusals.{NumberedIfHeard, heard-some, refusals-heard}
 use Rattle.lawful.specs.Lawful.{Lawful}
-use Rattle.lawful.proofs.Loads.{loads-lawful}
+use Rattle.lawful.proofs.Loads.{heard-lawful}
 use Rattle.plans.specs.Plans.{startState, Reached, StraightPlan}
 use Rattle.plans.proofs.States.{start-length}
 use Rattle.plans.proofs.Running.{runs-length}
@@ -21,16 +21,16 @@ use Rattle.runs.proofs.Answers.{straight-ends, straight-answer}
 use Rattle.planning.specs.Planning.{PlansFile, PlanAllows}
 use Rattle.planning.specs.Seeded.{seedRanks, SeededAllows}
 use Rattle.planning.proofs.Exact.{answer-0-is-first}
-use Rattle.demands.specs.Words.{LoadsAs}
+use Rattle.demands.specs.Words.{LoadsFor}
 
 -- ---- a straight plan that is run
 
 module _
-    (file : List ℕ) (t : Study) (loads : LoadsAs file t) (list : List ℕ) (straight : StraightPlan t list)
-    (state : List ℕ) (room : length (t .counts) ≤ length state) (answer : Answer) (left : List ℕ) (allowed : RunAllows file list state answer left)
+    (file : List ℕ) (crew : ℕ) (t : Study) (loads : LoadsFor file crew t) (list : List ℕ) (straight : StraightPlan t list)
+    (state : List ℕ) (room : length (t .counts) ≤ length state) (answer : Answer) (left : List ℕ) (allowed : RunAllows file crew list state answer left)
   where
     lawful : Lawful t
-    lawful = loads-lawful file t loads
+    lawful = heard-lawful file crew t loads
 
     long : length (straight .plan .end) ≡ length (t .counts)
     long = runs-length t (startState t) list (straight .plan .end) (straight .plan .runs) ∙ start-length t ∙ lawful .a-task-each
@@ -45,40 +45,40 @@ module _
         rw ((rw loads at allowed) .1, straight-ends t (length state) list room straight, take-at (straight .plan .end) _ (length (t .counts)) long)
         (straight .plan .reached)
 
--- ---- where planning answers 0 the file loads, and what is left is a straight plan
+-- ---- where planning answers 0 the file loads and has the crew, and what is left is a straight plan
 
-record Left (file after : List ℕ) (r : Answer) : Type 0 where
+record Left (file : List ℕ) (crew : ℕ) (after : List ℕ) (r : Answer) : Type 0 where
   study : Study
-  loads : LoadsAs file study
+  loads : LoadsFor file crew study
   straight : StraightPlan study (take (r .first) after)
 
 said-left :
-    (file : List ℕ) (said : Said) → reading file ≡ said → NumberedIfRefused said → (ranks before : List ℕ) (r : Answer) (after : List ℕ)
-    → PlansFile said ranks before r after → r .number ≡ 0 → Left file after r
-said-left file (says t) e n ranks before r after p z = record { study = t; loads = e; straight = answer-0-is-first p z .straight }
-said-left file (refused number place) e n ranks before r after p z =
-    absurd (omega (arith, ap (λ (a : Answer). a .number) (p .0), numbered-some n))
+    (file : List ℕ) (crew : ℕ) (said : Said Study) → readingFor file crew ≡ said → NumberedIfHeard said
+    → (ranks before : List ℕ) (r : Answer) (after : List ℕ) → PlansFile said ranks before r after → r .number ≡ 0 → Left file crew after r
+said-left file crew (says t) e n ranks before r after p z = record { study = t; loads = e; straight = answer-0-is-first p z .straight }
+said-left file crew (refused number place) e n ranks before r after p z =
+    absurd (omega (arith, ap (λ (a : Answer). a .number) (p .0), heard-some n))
 
 left-is-run :
-    {file after : List ℕ} {r : Answer} → Left file after r
+    {file : List ℕ} {crew : ℕ} {after : List ℕ} {r : Answer} → Left file crew after r
     → (state : List ℕ) → 32 ≤ length state
-    → (answer : Answer) (left : List ℕ) → RunAllows file (take (r .first) after) state answer left → answer .number ≡ 0
-left-is-run {file} {after} {r} l state room answer left q =
-    let room′ : length (l .study .counts) ≤ length state = omega (arith, loads-lawful file (l .study) (l .loads) .few-variables) in
+    → (answer : Answer) (left : List ℕ) → RunAllows file crew (take (r .first) after) state answer left → answer .number ≡ 0
+left-is-run {file} {crew} {after} {r} l state room answer left q =
+    let room′ : length (l .study .counts) ≤ length state = omega (arith, heard-lawful file crew (l .study) (l .loads) .few-variables) in
     ap (λ (a : Answer). a .number)
-    (straight-plan-is-answered-0 file (l .study) (l .loads) (take (r .first) after) (l .straight) state room′ answer left q)
+    (straight-plan-is-answered-0 file crew (l .study) (l .loads) (take (r .first) after) (l .straight) state room′ answer left q)
 
--- ---- the theorems: a file was planned and answered 0; 32 bytes are room for the end state of any file
+-- ---- the theorems: a file was planned for a crew and answered 0; 32 bytes are room for the end state of any file
 
 pub planned-list-is-run :
-    (file ranks before : List ℕ) (r : Answer) (after : List ℕ) → PlanAllows file ranks before r after → r .number ≡ 0
+    (file : List ℕ) (crew : ℕ) (ranks before : List ℕ) (r : Answer) (after : List ℕ) → PlanAllows file crew ranks before r after → r .number ≡ 0
     → (state : List ℕ) → 32 ≤ length state
-    → (answer : Answer) (left : List ℕ) → RunAllows file (take (r .first) after) state answer left → answer .number ≡ 0
-planned-list-is-run file ranks before r after p z =
-    left-is-run (said-left file (reading file) refl (refusals-numbered file) ranks before r after p z)
+    → (answer : Answer) (left : List ℕ) → RunAllows file crew (take (r .first) after) state answer left → answer .number ≡ 0
+planned-list-is-run file crew ranks before r after p z =
+    left-is-run (said-left file crew (readingFor file crew) refl (refusals-heard file crew) ranks before r after p z)
 
 pub seeded-list-is-run :
-    (file before : List ℕ) (r : Answer) (after : List ℕ) → SeededAllows file before r after → r .number ≡ 0
+    (file : List ℕ) (crew : ℕ) (before : List ℕ) (r : Answer) (after : List ℕ) → SeededAllows file crew before r after → r .number ≡ 0
     → (state : List ℕ) → 32 ≤ length state
-    → (answer : Answer) (left : List ℕ) → RunAllows file (take (r .first) after) state answer left → answer .number ≡ 0
-seeded-list-is-run file = planned-list-is-run file (seedRanks (reading file))
+    → (answer : Answer) (left : List ℕ) → RunAllows file crew (take (r .first) after) state answer left → answer .number ≡ 0
+seeded-list-is-run file crew = planned-list-is-run file crew (seedRanks (readingFor file crew))

@@ -3,4 +3,5 @@ pub mod Demand2
 pub mod Demand3
 pub mod Room
 pub mod RefusedAlike
+pub mod Crews
 pub mod Charts

@@ -1,4 +1,4 @@
--- Straight plans of one file have equal length, at most 256: so 256 bytes are room for any plan of any file.
+-- Straight plans of one file and crew have equal length, at most 256: so 256 bytes are room for any plan of any file.
 -- Assumes nothing.
 use Prim.Native.Nat.{ℕ, _≤_}
 use native.Mathlib.Omega.{arith}
@@ -6,23 +6,23 @@ use mathlib.Core.Path.{_≡_}
 use mathlib.Core.List.{List}
 use lib.ListN.{length}
 use Rattle.study.specs.Study.{Study}
-use Rattle.lawful.proofs.Loads.{loads-lawful}
+use Rattle.lawful.proofs.Loads.{heard-lawful}
 use Rattle.plans.specs.Plans.{StraightPlan}
 use Rattle.orders.proofs.Lists.{distinct-below}
 use Rattle.orders.proofs.Members.{order-distinct}
 use Rattle.walks.specs.Walks.{OnAWalk, ComesBefore}
 use Rattle.walks.proofs.Ordered.{straight-is-order}
 use Rattle.planning.proofs.Found.{straight-equally-long, straight-usable}
-use Rattle.demands.specs.Words.{LoadsAs, RoomFor}
+use Rattle.demands.specs.Words.{LoadsFor, RoomFor}
 
-module _ (file : List ℕ) (t : Study) (loads : LoadsAs file t) where
+module _ (file : List ℕ) (crew : ℕ) (t : Study) (loads : LoadsFor file crew t) where
   pub straight-plans-have-equal-length : (one other : List ℕ) → StraightPlan t one → StraightPlan t other → length one ≡ length other
-  straight-plans-have-equal-length one other = straight-equally-long (loads-lawful file t loads)
+  straight-plans-have-equal-length one other = straight-equally-long (heard-lawful file crew t loads)
 
   -- no action stands on a straight plan twice
   pub straight-plans-are-short : (list : List ℕ) → StraightPlan t list → length list ≤ 256
   straight-plans-are-short list straight =
-      let lawful = loads-lawful file t loads in
+      let lawful = heard-lawful file crew t loads in
       omega (
         arith,
         distinct-below list (length (t .actions)) (order-distinct (OnAWalk t) (ComesBefore t) list (straight-is-order lawful straight))

@@ -1,4 +1,4 @@
--- Words that the demands' theorems share: a file that loads, a rank list for it, and room.
+-- Words that the demands' theorems share: a file that loads, what it says to a crew, a rank list for it, and room.
 -- Assumes nothing.
 use mathlib.Core.Path.{_≡_}
 use mathlib.Core.List.{List, _++_}
@@ -7,14 +7,18 @@ use lib.ListN.{length, drop}
 use Rattle.answer.specs.Answers.{done}
 use Rattle.answer.specs.Allowing.{AllowsOnly}
 use Rattle.ranks.specs.Ranks.{RankList}
-use Rattle.study.specs.Study.{Study}
-use Rattle.study.specs.Reading.{says, reading}
+use Rattle.study.specs.Study.{Study, Roster}
+use Rattle.study.specs.Reading.{says, reading, readingFor}
 use Rattle.plans.specs.Plans.{StraightPlan}
 use Rattle.planning.specs.Planning.{PlanAllows}
 
--- the file loads: it says this study
-abbrev pub LoadsAs : List ℕ → Study → Type 0
-LoadsAs file t = reading file ≡ says t
+-- the file loads: it says this roster
+abbrev pub LoadsAs : List ℕ → Roster → Type 0
+LoadsAs file r = reading file ≡ says r
+
+-- the file loads and has the crew, to which it says this study
+abbrev pub LoadsFor : List ℕ → ℕ → Study → Type 0
+LoadsFor file crew t = readingFor file crew ≡ says t
 
 -- one entry for each action of the study, and each of 0 to A - 1 once
 abbrev pub RanksFor : Study → List ℕ → Type 0
@@ -27,8 +31,8 @@ RoomFor t before = (list : List ℕ) → StraightPlan t list → length list ≤
 abbrev pub NoStraightPlan : Study → Type 0
 NoStraightPlan t = (list : List ℕ) → StraightPlan t list → ⊥
 
--- with these ranks the file is planned with this list, and no other, into every buffer that has room for it
-abbrev pub Returned : List ℕ → List ℕ → List ℕ → Type 0
-Returned file ranks list =
+-- with these ranks the file is planned for the crew with this list, and no other, into every buffer that has room for it
+abbrev pub Returned : List ℕ → ℕ → List ℕ → List ℕ → Type 0
+Returned file crew ranks list =
     (before : List ℕ) → length list ≤ length before
-    → AllowsOnly (PlanAllows file ranks before) (done (length list) 0) (list ++ drop (length list) before)
+    → AllowsOnly (PlanAllows file crew ranks before) (done (length list) 0) (list ++ drop (length list) before)

@@ -8,9 +8,9 @@ use Prim.Native.Nat.{ℕ, _+_}
 use native.Mathlib.Omega.{arith}
 use lib.ListN.{length, getD, length-drop}
 use borrow.Author.Tests.{le-ltb, eq-eqb}
-use Rattle.study.specs.Study.{Study}
+use Rattle.study.specs.Study.{Roster}
 use Rattle.study.specs.Uses.{firstUnused}
-use Rattle.study.specs.Reading.{says, refused, Draft, end, fault, firstRepeat, ended, taken, unless, mayFollow, reading}
+use Rattle.study.specs.Reading.{says, refused, Draft, end, rosterOf, fault, faultIn, firstRepeat, ended, taken, unless, mayFollow, reading}
 use Rattle.lawful.proofs.Sound.{Sound}
 use Rattle.entering.specs.declared.Progress.{Progress}
 use Rattle.pacing.proofs.Reached.{settles}
@@ -32,22 +32,22 @@ module _ (l : Lists) {counts : List ℕ} {p : Progress} (h : Drafted (fileOf l) 
   long = omega (arith, length-drop (p .at) (fileOf l), ap length (h .rest), h .inside)
 
   said : (repeat : Option ℕ) → firstRepeat (h .draft .study) ≡ repeat → reading (fileOf l) ≡ ended (fileOf l) (p .at + 1) (h .draft) repeat
-  unfolding taken fault unless mayFollow
+  unfolding taken faultIn fault unless mayFollow
   said repeat e = settles (h .reached) (h .inside) (verdict-here end h (eq-eqb (p .last) 5 last) ∙ rw e)
 
   module _ {place : ℕ} (repeated : RepeatedIn l place) where
     -- the lists' repeat is the draft's
-    of-the-draft : RepeatedIn (listsOf (h .draft .study)) place
+    of-the-draft : RepeatedIn (listsOf (rosterOf (h .draft))) place
     of-the-draft = subst (λ (m : Lists). RepeatedIn m place) (sym (all-retold l (h .retold) (h .rest) (sym (h .knows .last) ∙ last))) repeated
 
     small : Small (h .draft .study .actions)
     small = sound-small (h .retold .met .sound)
 
     pub loads :
-        place ≡ 0 → firstUnused (h .draft .study) ≡ none → ((s : Study) × (reading (fileOf l) ≡ says s)) × (p .at + 1 ≡ length (fileOf l))
+        place ≡ 0 → firstUnused (h .draft .study) ≡ none → ((r : Roster) × (reading (fileOf l) ≡ says r)) × (p .at + 1 ≡ length (fileOf l))
     loads e used = (
       (
-        h .draft .study,
+        rosterOf (h .draft),
         said none (of-the-draft .none-repeats small e) ∙ rw (used, le-ltb (p .at + 1) (length (fileOf l)) (omega (arith, long))),
       ),
       long,

@@ -1,24 +1,28 @@
 -- Lent bytes, entry by entry: an entry that is lent whole, and what stands for one that is not.
 -- Assumes nothing.
 use mathlib.Core.Path.{_≡_, refl}
+use mathlib.Core.Bool.{Bool, true, false}
 use mathlib.Core.List.{List, [], _∷_, _++_, map, append-assoc}
-use Prim.Native.Nat.{ℕ, suc, _+_, _*_, _≤_, _<_}
+use Prim.Native.Nat.{ℕ, zero, suc, _+_, _*_, _≤_, _<_}
 use native.Mathlib.Numerals.{add-one}
 use native.Mathlib.Omega.{arith}
-use lib.ListN.{length, getD, drop, length-drop}
+use lib.Dec.{eqb}
+use lib.ListN.{length, getD, drop, length-drop, drop-of-length-le}
 use lib.Seq.{drop-drop}
+use borrow.Author.Tests.{ne-eqb}
 use Rattle.study.specs.Study.{Condition}
-use Rattle.study.specs.Reading.{Record, variable, action, task}
-use Rattle.spelling.specs.Lists.{conditionRecord, taskRecord, timesRecord, actionRecords}
-use Rattle.spelling.specs.Lent.{conditionsIn, firstOf, left, actionsIn, errandsIn, unlent, unlentCondition}
-use Rattle.spelling.proofs.LentBytes.{one-byte, two-bytes, three-bytes, five-bytes, conditions-behind}
-use Rattle.drafting.specs.Drafts.{firstCondition}
+use Rattle.plain.specs.Choose.{pick}
+use Rattle.study.specs.Reading.{Record, variable, action, seed, end}
+use Rattle.spelling.specs.Lists.{Errand, Team, conditionRecord, taskRecord, timesRecord, actionRecords, behind, crewRecords}
+use Rattle.spelling.specs.Lent.{number, unlent, unlentCondition, unlentErrand, unlentTeam, conditionsIn, firstOf, left, actionsIn, errandsIn, untaken, crewsIn}
+use Rattle.spelling.proofs.LentBytes.{one-byte, two-bytes, three-bytes, five-bytes, conditions-behind, errands-behind}
+use Rattle.drafting.specs.Drafts.{firstOr, openingRecord, crewsToCome}
 
--- the first of some conditions, and the others
-first-of : (n : ℕ) (cs : List Condition) → firstOf (suc n) cs ≡ firstCondition cs ∷ firstOf n (drop 1 cs)
+-- the first of some entries, and the others
+first-of : {A : Type 0} (other : A) (n : ℕ) (xs : List A) → firstOf other (suc n) xs ≡ firstOr other xs ∷ firstOf other n (drop 1 xs)
 unfolding firstOf
-first-of n [] = refl
-first-of n (c ∷ rest) = refl
+first-of other n [] = refl
+first-of other n (x ∷ rest) = refl
 
 -- ---- variables
 
@@ -31,27 +35,27 @@ no-variable-lent (n ∷ bytes) rest e = absurd (omega arith)
 
 -- ---- conditions
 
-pub condition-lent : (bytes : List ℕ) (i : ℕ) → i + 2 ≤ length bytes → firstCondition (conditionsIn (drop i bytes)) ≡ record { var = getD bytes i 0; value = getD bytes (i + 1) 0 }
+pub condition-lent : (bytes : List ℕ) (i : ℕ) → i + 2 ≤ length bytes → firstOr unlentCondition (conditionsIn (drop i bytes)) ≡ record { var = getD bytes i 0; value = getD bytes (i + 1) 0 }
 unfolding conditionsIn
 condition-lent bytes i h = rw (two-bytes bytes i h)
 
-pub condition-unlent : (bytes : List ℕ) (i : ℕ) → length bytes < i + 2 → firstCondition (conditionsIn (drop i bytes)) ≡ unlentCondition
+pub condition-unlent : (bytes : List ℕ) (i : ℕ) → length bytes < i + 2 → firstOr unlentCondition (conditionsIn (drop i bytes)) ≡ unlentCondition
 unfolding conditionsIn
 condition-unlent bytes i h = short (drop i bytes) (omega (arith, length-drop i bytes))
   where
-    short : (l : List ℕ) → length l < 2 → firstCondition (conditionsIn l) ≡ unlentCondition
+    short : (l : List ℕ) → length l < 2 → firstOr unlentCondition (conditionsIn l) ≡ unlentCondition
     short [] g = refl
     short (v ∷ []) g = refl
     short (v ∷ q ∷ rest) g = absurd (omega arith)
 
 pub next-condition :
     (bytes : List ℕ) (i many n : ℕ) (rest : List Record) → many ≡ n + 1
-    → map conditionRecord (firstOf many (conditionsIn (drop i bytes))) ++ rest
-    ≡ conditionRecord (firstCondition (conditionsIn (drop i bytes))) ∷ (map conditionRecord (firstOf n (conditionsIn (drop (i + 2) bytes))) ++ rest)
+    → map conditionRecord (firstOf unlentCondition many (conditionsIn (drop i bytes))) ++ rest
+    ≡ conditionRecord (firstOr unlentCondition (conditionsIn (drop i bytes))) ∷ (map conditionRecord (firstOf unlentCondition n (conditionsIn (drop (i + 2) bytes))) ++ rest)
 next-condition bytes i many n rest e =
-    rw (e, add-one n, first-of n (conditionsIn (drop i bytes)), conditions-behind 1 (drop i bytes), drop-drop 2 i bytes)
+    rw (e, add-one n, first-of unlentCondition n (conditionsIn (drop i bytes)), conditions-behind 1 (drop i bytes), drop-drop 2 i bytes)
 
-pub no-condition : (bytes : List ℕ) (i : ℕ) (rest : List Record) → map conditionRecord (firstOf 0 (conditionsIn (drop i bytes))) ++ rest ≡ rest
+pub no-condition : (bytes : List ℕ) (i : ℕ) (rest : List Record) → map conditionRecord (firstOf unlentCondition 0 (conditionsIn (drop i bytes))) ++ rest ≡ rest
 unfolding firstOf
 no-condition bytes i rest = refl
 
@@ -60,7 +64,7 @@ no-condition bytes i rest = refl
 entry-records :
     (v p q set n : ℕ) (bytes : List ℕ) (cs : List Condition) (rest : List Record)
     → actionRecords (actionsIn (v ∷ p ∷ q ∷ set ∷ n ∷ bytes) cs) ++ rest
-    ≡ action v p q ∷ (map conditionRecord (firstOf n cs) ++ (timesRecord set ++ (actionRecords (actionsIn bytes (drop n cs)) ++ rest)))
+    ≡ action v p q ∷ (map conditionRecord (firstOf unlentCondition n cs) ++ (timesRecord set ++ (actionRecords (actionsIn bytes (drop n cs)) ++ rest)))
 unfolding actionsIn actionRecords
 entry-records v p q set n bytes cs rest = simp append-assoc
 
@@ -68,7 +72,7 @@ pub action-lent :
     (actions : List ℕ) (i : ℕ) (conditions : List ℕ) (used : ℕ) (rest : List Record) → i + 5 ≤ length actions
     → actionRecords (actionsIn (drop i actions) (conditionsIn (drop used conditions))) ++ rest
     ≡ action (getD actions i 0) (getD actions (i + 1) 0) (getD actions (i + 2) 0)
-    ∷ (map conditionRecord (firstOf (getD actions (i + 4) 0) (conditionsIn (drop used conditions)))
+    ∷ (map conditionRecord (firstOf unlentCondition (getD actions (i + 4) 0) (conditionsIn (drop used conditions)))
     ++ (timesRecord (getD actions (i + 3) 0)
     ++ (actionRecords (actionsIn (drop (i + 5) actions) (conditionsIn (drop (used + 2 * getD actions (i + 4) 0) conditions))) ++ rest)))
 action-lent actions i conditions used rest h =
@@ -116,28 +120,108 @@ action-unlent actions i conditions used rest h some =
 -- ---- tasks
 
 pub task-lent :
-    (bytes : List ℕ) (i : ℕ) (rest : List Record) → i + 3 ≤ length bytes
-    → map taskRecord (errandsIn (drop i bytes)) ++ rest
-    ≡ task (getD bytes i 0) (getD bytes (i + 1) 0) (getD bytes (i + 2) 0) ∷ (map taskRecord (errandsIn (drop (i + 3) bytes)) ++ rest)
+    (bytes : List ℕ) (i : ℕ) → i + 3 ≤ length bytes
+    → firstOr unlentErrand (errandsIn (drop i bytes)) ≡ record { var = getD bytes i 0; start = getD bytes (i + 1) 0; goal = getD bytes (i + 2) 0 }
 unfolding errandsIn
-task-lent bytes i rest h = rw (three-bytes bytes i h)
+task-lent bytes i h = rw (three-bytes bytes i h)
 
-pub no-task : (bytes : List ℕ) (i : ℕ) (rest : List Record) → length bytes ≤ i → map taskRecord (errandsIn (drop i bytes)) ++ rest ≡ rest
+pub task-unlent : (bytes : List ℕ) (i : ℕ) → length bytes < i + 3 → firstOr unlentErrand (errandsIn (drop i bytes)) ≡ unlentErrand
 unfolding errandsIn
-no-task bytes i rest h = none (drop i bytes) (omega (arith, length-drop i bytes))
+task-unlent bytes i h = short (drop i bytes) (omega (arith, length-drop i bytes))
   where
-    none : (l : List ℕ) → length l ≡ 0 → map taskRecord (errandsIn l) ++ rest ≡ rest
-    none [] g = refl
-    none (v ∷ l) g = absurd (omega arith)
+    short : (l : List ℕ) → length l < 3 → firstOr unlentErrand (errandsIn l) ≡ unlentErrand
+    short [] g = refl
+    short (v ∷ []) g = refl
+    short (v ∷ p ∷ []) g = refl
+    short (v ∷ p ∷ q ∷ rest) g = absurd (omega arith)
 
-pub task-unlent :
-    (bytes : List ℕ) (i : ℕ) (rest : List Record) → i < length bytes → length bytes < i + 3
-    → map taskRecord (errandsIn (drop i bytes)) ++ rest ≡ task unlent unlent unlent ∷ rest
-unfolding errandsIn
-task-unlent bytes i rest h g = short (drop i bytes) (omega (arith, length-drop i bytes)) (omega (arith, length-drop i bytes))
-  where
-    short : (l : List ℕ) → 0 < length l → length l < 3 → map taskRecord (errandsIn l) ++ rest ≡ task unlent unlent unlent ∷ rest
-    short [] x y = absurd (omega arith)
-    short (v ∷ []) x y = refl
-    short (v ∷ p ∷ []) x y = refl
-    short (v ∷ p ∷ q ∷ l) x y = absurd (omega arith)
+pub next-task :
+    (bytes : List ℕ) (i many n : ℕ) (rest : List Record) → many ≡ n + 1
+    → map taskRecord (firstOf unlentErrand many (errandsIn (drop i bytes))) ++ rest
+    ≡ taskRecord (firstOr unlentErrand (errandsIn (drop i bytes))) ∷ (map taskRecord (firstOf unlentErrand n (errandsIn (drop (i + 3) bytes))) ++ rest)
+next-task bytes i many n rest e =
+    rw (e, add-one n, first-of unlentErrand n (errandsIn (drop i bytes)), errands-behind 1 (drop i bytes), drop-drop 3 i bytes)
+
+pub no-task : (bytes : List ℕ) (i : ℕ) (rest : List Record) → map taskRecord (firstOf unlentErrand 0 (errandsIn (drop i bytes))) ++ rest ≡ rest
+unfolding firstOf
+no-task bytes i rest = refl
+
+-- so many tasks stand in the bytes
+pub all-tasks : (many : ℕ) (bytes : List ℕ) → length bytes ≤ 3 * many → 3 * many ≤ length bytes + 2 → firstOf unlentErrand many (errandsIn bytes) ≡ errandsIn bytes
+unfolding firstOf errandsIn
+all-tasks zero [] h g = refl
+all-tasks zero (v ∷ rest) h g = absurd (omega arith)
+all-tasks (suc n) [] h g = absurd (omega arith)
+all-tasks (suc n) (v ∷ []) h g = let e : n ≡ 0 = omega arith in rw e
+all-tasks (suc n) (v ∷ p ∷ []) h g = let e : n ≡ 0 = omega arith in rw e
+all-tasks (suc n) (v ∷ p ∷ q ∷ rest) h g = rw (all-tasks n rest (omega arith) (omega arith))
+
+-- ---- crews
+
+-- a crew and those behind it, by where it stands
+opened-by : (b : Bool) (k : Team) (rest : List Team) → pick b (crewRecords (k ∷ rest)) (behind (k ∷ rest)) ≡ openingRecord b ++ (map taskRecord (k .tasks) ++ (seed (k .seed) ∷ behind rest))
+unfolding crewRecords behind
+opened-by true k rest = simp append-assoc
+opened-by false k rest = simp append-assoc
+
+module _ (crews : List ℕ) (i : ℕ) (tasks : List ℕ) (used : ℕ) where
+  abbrev pub to-come : List Record
+  to-come = crewsToCome i (crewsIn (drop i crews) (errandsIn (drop used tasks)))
+
+  pub crew-lent :
+      i + 5 ≤ length crews
+      → to-come
+      ≡ openingRecord (eqb i 0)
+      ++ (map taskRecord (firstOf unlentErrand (getD crews i 0) (errandsIn (drop used tasks)))
+      ++ (seed (number (getD crews (i + 1) 0) (getD crews (i + 2) 0) (getD crews (i + 3) 0) (getD crews (i + 4) 0))
+      ∷ crewsToCome (i + 5) (crewsIn (drop (i + 5) crews) (errandsIn (drop (used + 3 * getD crews i 0) tasks)))))
+  unfolding crewsIn
+  crew-lent h =
+      rw (
+        five-bytes crews i h,
+        opened-by (eqb i 0) _ _,
+        errands-behind (getD crews i 0) (drop used tasks),
+        drop-drop (3 * getD crews i 0) used tasks,
+        ne-eqb (i + 5) 0 (λ e. omega arith),
+      )
+
+  -- no byte and no task is left: only the end
+  pub no-crew : length crews ≤ i → length tasks ≤ used → to-come ≡ end ∷ []
+  unfolding crewsIn untaken errandsIn crewRecords behind
+  no-crew h g =
+      rw (drop-of-length-le crews h, drop-of-length-le tasks g) (either-way (eqb i 0))
+    where
+      either-way : (b : Bool) → pick b (end ∷ []) (end ∷ []) ≡ end ∷ []
+      either-way true = refl
+      either-way false = refl
+
+  -- bytes or tasks are left that make no crew: one comes in their place
+  pub crew-unlent :
+      (many : ℕ) → length crews < i + 5 → (length crews ≤ i → length tasks ≤ used → ⊥)
+      → length (drop used tasks) ≤ 3 * many → 3 * many ≤ length (drop used tasks) + 2
+      → to-come
+      ≡ openingRecord (eqb i 0)
+      ++ (map taskRecord (firstOf unlentErrand many (errandsIn (drop used tasks))) ++ (seed (number unlent unlent unlent unlent) ∷ end ∷ []))
+  unfolding crewsIn untaken errandsIn behind
+  crew-unlent many few some all no-more =
+      rw (one, all-tasks many (drop used tasks) all no-more) (opened-by (eqb i 0) (unlentTeam (errandsIn (drop used tasks))) [])
+    where
+      left : (c : List ℕ) (t : List Errand) → length c < 5 → (length c ≡ 0 → length t ≡ 0 → ⊥) → crewsIn c t ≡ unlentTeam t ∷ []
+      left [] [] h s = absurd (s refl refl)
+      left [] (t ∷ ts) h s = refl
+      left (n ∷ []) t h s = refl
+      left (n ∷ a ∷ []) t h s = refl
+      left (n ∷ a ∷ b ∷ []) t h s = refl
+      left (n ∷ a ∷ b ∷ c ∷ []) t h s = refl
+      left (n ∷ a ∷ b ∷ c ∷ d ∷ more) t h s = absurd (omega arith)
+
+      none-in : (bytes : List ℕ) → length (errandsIn bytes) ≡ 0 → length bytes ≡ 0
+      none-in [] e = refl
+      none-in (v ∷ []) e = absurd (omega arith)
+      none-in (v ∷ p ∷ []) e = absurd (omega arith)
+      none-in (v ∷ p ∷ q ∷ more) e = absurd (omega arith)
+
+      one : crewsIn (drop i crews) (errandsIn (drop used tasks)) ≡ unlentTeam (errandsIn (drop used tasks)) ∷ []
+      one =
+          left (drop i crews) (errandsIn (drop used tasks)) (omega (arith, length-drop i crews))
+          (λ x y. some (omega (arith, length-drop i crews)) (omega (arith, length-drop used tasks, none-in (drop used tasks) y)))

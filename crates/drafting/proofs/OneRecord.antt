@@ -9,17 +9,17 @@ use lib.Dec.{eqb, ltb, eqb·suc-zero}
 use lib.ListN.{length, drop, set, length-set}
 use borrow.Author.Tests.{eq-eqb}
 use Rattle.plain.specs.Choose.{pick}
-use Rattle.study.specs.Reading.{Record, variable, action, condition, task, seed, times, present, refused, reading, Draft, settled, onward, fault, drafted, taken, unless, mayFollow, verdictAt}
+use Rattle.study.specs.Reading.{Record, variable, action, condition, task, seed, times, present, crew, refused, reading, Draft, settled, onward, faultIn, drafted, taken, unless, mayFollow, verdictAt}
 use Rattle.lawful.specs.Lengths.{bytesOf}
-use Rattle.judging.specs.Faults.{variableFault, actionFault, conditionFault, taskFault, seedFault, timesFault, presentFault}
+use Rattle.judging.specs.Faults.{variableFault, actionFault, conditionFault, taskFault, seedFault, timesFault, presentFault, crewFault}
 use Rattle.entering.specs.declared.Progress.{Progress}
 use Rattle.entering.specs.declared.Step.the-variants.{Refused}
-use Rattle.entering.specs.Steps.{unlessFault, stored, afterVariable, afterAction, afterCondition, afterTask, afterSeed, afterTimes, afterPresent}
+use Rattle.entering.specs.Steps.{unlessFault, stored, afterVariable, afterAction, afterCondition, afterTask, afterSeed, afterTimes, afterPresent, afterCrew}
 use Rattle.pacing.specs.Reads.{Bounds, Knows}
 use Rattle.pacing.proofs.Arms.{allowed-is, may-condition}
 use Rattle.pacing.proofs.Reached.{settles, goes-further}
-use Rattle.pacing.proofs.Told.{variable-fault-is, action-fault-is, condition-fault-is, task-fault-is, seed-fault-is, times-fault-is, present-fault-is}
-use Rattle.pacing.proofs.Knowing.{variable-known, action-known, condition-known, task-known, seed-known, times-known, present-known}
+use Rattle.pacing.proofs.Told.{variable-fault-is, action-fault-is, condition-fault-is, task-fault-is, seed-fault-is, times-fault-is, present-fault-is, crew-fault-is}
+use Rattle.pacing.proofs.Knowing.{variable-known, action-known, condition-known, task-known, seed-known, times-known, present-known, crew-known}
 use Rattle.spelling.specs.Spelling.{kindOf, spelledRecord, spelled}
 use Rattle.spelling.proofs.Spelled.{rest-there, rest-inside, spelled-verdict}
 use Rattle.spelling.proofs.ReadBack.{retold-onward}
@@ -43,7 +43,7 @@ module _ {file counts : List ℕ} {p : Progress} {rest : List Record} (r : Recor
   pub verdict-here :
       {may : Bool} → mayFollow (ltb (p .tasks) (p .vars)) (p .last) (kindOf r) ≡ may
       → verdictAt file (p .at) (h .draft)
-      ≡ pick may (unless (fault (h .draft .study) r) (p .at) (taken file (p .at) (h .draft) (kindOf r) (p .at + bytesOf r) r)) (settled (refused 3 (p .at)))
+      ≡ pick may (unless (faultIn (h .draft) r) (p .at) (taken file (p .at) (h .draft) (kindOf r) (p .at + bytesOf r) r)) (settled (refused 3 (p .at)))
   verdict-here e = rw (← allowed-is (h .knows) (kindOf r) ∙ e) (spelled-verdict file (spelled rest) (p .at) r here (h .draft))
 
   -- its kind may not come here
@@ -62,7 +62,7 @@ module _ {file counts : List ℕ} {p : Progress} {rest : List Record} (r : Recor
   leads-unless :
       mayFollow (ltb (p .tasks) (p .vars)) (p .last) (kindOf r) ≡ true
       → (c : Bool → List ℕ) (after : Progress) (f : ℕ)
-      → f ≡ fault (h .draft .study) r
+      → f ≡ faultIn (h .draft) r
       → taken file (p .at) (h .draft) (kindOf r) (p .at + bytesOf r) r ≡ onward (after .at) with-it
       → after .at ≡ p .at + bytesOf r → p .at < after .at
       → (f ≡ 0 → Knows after (c true) with-it × (length (c true) ≡ 32))
@@ -145,11 +145,19 @@ module _ {file counts : List ℕ} {p : Progress} {rest : List Record} where
 
   pub seed-leads :
       (n : ℕ) → mayFollow (ltb (p .tasks) (p .vars)) (p .last) 5 ≡ true → Drafted file counts p (seed n ∷ rest)
-      → Leads file counts rest (unlessFault (seedFault n) p (afterSeed p n (p .at + 5)))
+      → Leads file counts rest (unlessFault (seedFault n) p (afterSeed p (p .at + 5)))
   unfolding taken
   seed-leads n may h =
-      leads-unless (seed n) h may (λ b. counts) (afterSeed p n (p .at + 5)) (seedFault n) (seed-fault-is (h .knows) n) refl refl (omega arith)
+      leads-unless (seed n) h may (λ b. counts) (afterSeed p (p .at + 5)) (seedFault n) (seed-fault-is (h .knows) n) refl refl (omega arith)
       (λ z. (seed-known (h .knows) _ n, h .wide))
+
+  pub crew-leads :
+      p .last ≡ 5 → Drafted file counts p (crew ∷ rest)
+      → Leads file counts rest (unlessFault (crewFault (p .crews)) p (afterCrew p (p .at + 1)))
+  unfolding taken mayFollow
+  crew-leads last h =
+      leads-unless crew h (eq-eqb (p .last) 5 last) (λ b. counts) (afterCrew p (p .at + 1)) (crewFault (p .crews)) (crew-fault-is (h .knows)) refl refl (omega arith)
+      (λ z. (crew-known (h .knows) _, h .wide))
 
 -- without a variable the records behind the variables may not come
 pub no-variable :

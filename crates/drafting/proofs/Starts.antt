@@ -8,7 +8,7 @@ use native.Mathlib.Omega.{arith}
 use lib.Dec.{eqb}
 use lib.ListN.{length, replicate, length-append, length-drop}
 use Rattle.plain.specs.Choose.{pick}
-use Rattle.study.specs.Reading.{Record, variable, present, seed, end, blank}
+use Rattle.study.specs.Reading.{Record, variable, present, blank}
 use Rattle.tables.specs.Rows.{countColumn, column}
 use Rattle.lawful.specs.Lengths.{bytesOfPresent}
 use Rattle.entering.specs.declared.Progress.{Progress}
@@ -16,8 +16,8 @@ use Rattle.pacing.specs.Reads.{Bounds, origin}
 use Rattle.pacing.proofs.Reached.{begun}
 use Rattle.pacing.proofs.Start.{nothing-known}
 use Rattle.spelling.specs.Spelling.{spelledRecord, spelled}
-use Rattle.spelling.specs.Lists.{presentRecord, taskRecord, actionRecords, recordsOf, fileOf}
-use Rattle.spelling.specs.Lent.{conditionsIn, actionsIn, errandsIn, lent}
+use Rattle.spelling.specs.Lists.{presentRecord, actionRecords, crewRecords, recordsOf, fileOf}
+use Rattle.spelling.specs.Lent.{conditionsIn, actionsIn, errandsIn, crewsIn, lent}
 use Rattle.spelling.proofs.Rewritten.{spelled-append}
 use Rattle.spelling.proofs.ReadBack.{nothing-retold}
 use Rattle.drafting.specs.Drafts.{Drafted}
@@ -35,12 +35,12 @@ unfolding spelled spelledRecord
 present-bytes true n = refl
 present-bytes false n = refl
 
-module _ (situation : ℕ) (variables actions conditions tasks : List ℕ) (n : ℕ) where
+module _ (situation : ℕ) (variables actions conditions crews tasks : List ℕ) where
   abbrev file : List ℕ
-  file = fileOf (lent situation variables actions conditions tasks n)
+  file = fileOf (lent situation variables actions conditions crews tasks)
 
   abbrev pub behindVariables : List Record
-  behindVariables = actionRecords (actionsIn actions (conditionsIn conditions)) ++ (map taskRecord (errandsIn tasks) ++ (seed n ∷ end ∷ []))
+  behindVariables = actionRecords (actionsIn actions (conditionsIn conditions)) ++ crewRecords (crewsIn crews (errandsIn tasks))
 
   pub starts : Drafted file (countColumn (replicate 32 (replicate 3 0))) origin (presentRecord situation ++ (map variable variables ++ behindVariables))
   unfolding fileOf recordsOf column

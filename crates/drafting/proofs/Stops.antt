@@ -6,7 +6,8 @@ use Prim.Native.Nat.{ℕ}
 use native.Mathlib.Omega.{arith}
 use types.Run.{OneOf}
 use denote.Enum.Declared.{tagOf}
-use Rattle.study.specs.Reading.{Record, reading, refused}
+use Rattle.study.specs.Study.{Roster}
+use Rattle.study.specs.Reading.{Said, Record, reading, refused}
 use Rattle.entering.specs.declared.Progress.{Progress}
 use Rattle.entering.specs.declared.Step.{Step}
 use Rattle.entering.specs.declared.Step.the-variants.{On, Refused, Done}
@@ -49,7 +50,7 @@ module _ {file counts : List ℕ} {to-come : List Record} where
     is-not-done = λ q e. differ e (λ z. omega arith);
   }
     where
-      also : {n m place there : ℕ} → Refused n place ≡ Refused m there → refused n place ≡ refused m there
+      also : {n m place there : ℕ} → Refused n place ≡ Refused m there → _≡_ {A = Said Roster} (refused n place) (refused m there)
       also e = cc
 
   -- where a step has stopped, the tables and the records to come do not matter

@@ -6,15 +6,16 @@ use mathlib.Core.Bool.{Bool, true, false, _&&_, and-eq-true-iff, and-false, or-t
 use mathlib.Core.List.{List, [], _∷_, _++_, map}
 use Prim.Native.Nat.{ℕ, _≤_, _<_}
 use native.Mathlib.Omega.{arith}
+use native.Mathlib.Decide.{ℕ-discrete}
 use lib.Dec.{leb, ltb, eqb}
 use borrow.Author.Tests.{leb-true, le-leb, le-ltb, lt-ltb}
 use Rattle.plain.proofs.Tests.{either}
 use Rattle.study.specs.Study.{Action}
-use Rattle.study.specs.Reading.{Record, variable, action, condition, task, seed, end, times, present, mayFollow}
+use Rattle.study.specs.Reading.{Record, variable, action, condition, task, seed, end, times, present, crew, mayFollow}
 use Rattle.entering.specs.declared.Progress.{Progress}
 use Rattle.pacing.specs.Reads.{Bounds}
 use Rattle.spelling.specs.Spelling.{kindOf}
-use Rattle.spelling.specs.Lists.{Errand, taskRecord, actionRecords}
+use Rattle.spelling.specs.Lists.{Errand, Team, taskRecord, actionRecords, behind, crewRecords}
 use Rattle.drafting.specs.Drafts.{NoVariableYet, VariablesGoOn, ActionsGoOn, TasksGoOn, BehindVariables}
 
 module _ {last : ℕ} where
@@ -43,6 +44,10 @@ module _ {last : ℕ} where
   unfolding mayFollow
   next-task e = rw e
 
+  pub first-task : last ≡ 9 → TasksGoOn last
+  unfolding mayFollow
+  first-task e = rw e
+
   -- none of them comes behind the seed
   pub variable-early : VariablesGoOn last → last ≢ 5
   unfolding mayFollow
@@ -57,24 +62,26 @@ module _ {last : ℕ} where
   task-early h e = false≢true (rw e at h)
 
   -- before a variable none of the others may come
-  pub too-early : NoVariableYet last → (r : Record) → 2 ≤ kindOf r → kindOf r ≤ 5 → (left : Bool) → mayFollow left last (kindOf r) ≡ false
+  pub too-early : NoVariableYet last → (r : Record) → 2 ≤ kindOf r → kindOf r ≤ 6 → (left : Bool) → mayFollow left last (kindOf r) ≡ false
   unfolding mayFollow
   too-early (inl e) (variable n) low high left = absurd (omega arith)
   too-early (inl e) (action v p q) low high left = rw e
   too-early (inl e) (condition v q) low high left = rw e
   too-early (inl e) (task v p q) low high left = rw e
   too-early (inl e) (seed n) low high left = rw e
-  too-early (inl e) end low high left = absurd (omega arith)
+  too-early (inl e) end low high left = rw e
   too-early (inl e) (times n) low high left = absurd (omega arith)
   too-early (inl e) (present n) low high left = absurd (omega arith)
+  too-early (inl e) crew low high left = absurd (omega arith)
   too-early (inr e) (variable n) low high left = absurd (omega arith)
   too-early (inr e) (action v p q) low high left = rw e
   too-early (inr e) (condition v q) low high left = rw e
   too-early (inr e) (task v p q) low high left = rw e
   too-early (inr e) (seed n) low high left = rw e
-  too-early (inr e) end low high left = absurd (omega arith)
+  too-early (inr e) end low high left = rw e
   too-early (inr e) (times n) low high left = absurd (omega arith)
   too-early (inr e) (present n) low high left = absurd (omega arith)
+  too-early (inr e) crew low high left = absurd (omega arith)
 
 module _ (last : ℕ) where
   pub behind-actions : ActionsGoOn last → TasksGoOn last
@@ -95,13 +102,21 @@ module _ (last : ℕ) where
   unfolding mayFollow
   no-task-wanted {tasks} {vars} all = rw (le-ltb tasks vars all, and-false)
 
--- before the seed the place is near
-pub not-far : {p : Progress} {counts : List ℕ} → Bounds p counts → p .last ≢ 5 → p .at ≤ 30000
-not-far bounds early = omega (arith, bounds .short early, bounds .few-vars, bounds .few-actions, bounds .few-tasks, bounds .low)
+-- the place is near
+pub not-far : {p : Progress} {counts : List ℕ} → Bounds p counts → p .at ≤ 30000
+not-far {p} {counts} bounds = from (ℕ-discrete (p .last) 5)
+  where
+    from : Dec (p .last ≡ 5) → p .at ≤ 30000
+    from (yes seeded) = omega (arith, bounds .seeded seeded, bounds .few-vars, bounds .few-actions, bounds .few-crews, bounds .low)
+    from (no early) = omega (arith, bounds .short early, bounds .few-vars, bounds .few-actions, bounds .few-tasks, bounds .few-crews, bounds .low)
 
--- behind the variables come actions, tasks, the seed
-pub others-follow : (actions : List Action) (tasks : List Errand) (n : ℕ) → BehindVariables (actionRecords actions ++ (map taskRecord tasks ++ (seed n ∷ end ∷ [])))
-unfolding actionRecords
-others-follow [] [] n = omega arith
-others-follow [] (t ∷ tasks) n = omega arith
-others-follow (a ∷ actions) tasks n = omega arith
+-- behind the variables come actions, crews, the end
+pub others-follow : (actions : List Action) (teams : List Team) → BehindVariables (actionRecords actions ++ crewRecords teams)
+unfolding actionRecords crewRecords
+others-follow [] [] = omega arith
+others-follow [] (k ∷ rest) = from (k .tasks)
+  where
+    from : (tasks : List Errand) → BehindVariables ((map taskRecord tasks ++ (seed (k .seed) ∷ [])) ++ behind rest)
+    from [] = omega arith
+    from (t ∷ tasks) = omega arith
+others-follow (a ∷ actions) teams = omega arith

@@ -3,19 +3,19 @@
 use Prim.Native.Nat.{ℕ, _+_, _*_, _≤_}
 use mathlib.Core.Path.{_≡_}
 use mathlib.Core.Logic.{_⊎_}
-use mathlib.Core.Bool.{true, false}
+use mathlib.Core.Bool.{Bool, true, false}
 use mathlib.Core.List.{List, [], _∷_}
+use lib.Dec.{eqb}
 use lib.ListN.{length, drop}
-use Rattle.study.specs.Study.{Condition}
-use Rattle.study.specs.Reading.{Record, Draft, mayFollow, reading, refused}
+use Rattle.plain.specs.Choose.{pick}
+use Rattle.study.specs.Reading.{Record, crew, Draft, mayFollow, reading, refused}
 use Rattle.lawful.specs.Lengths.{bytesOfPresent}
 use Rattle.entering.specs.declared.Progress.{Progress}
 use Rattle.entering.specs.declared.Step.{Step}
 use Rattle.entering.specs.declared.Step.the-variants.{On, Refused, Done}
 use Rattle.pacing.specs.Reads.{Bounds, Knows, Reached}
 use Rattle.spelling.specs.Spelling.{kindOf, spelled}
-use Rattle.spelling.specs.Lists.{Lists}
-use Rattle.spelling.specs.Lent.{unlentCondition}
+use Rattle.spelling.specs.Lists.{Team, Lists, behind, crewRecords}
 use Rattle.spelling.proofs.ReadBack.{Retold}
 use Rattle.repeats.specs.Repeats.{Repeated}
 use Rattle.drafting.specs.declared.Judged.{Judged}
@@ -37,7 +37,7 @@ TasksGoOn last = mayFollow true last 4 ≡ true
 -- the first of the records is one that may not come before a variable
 abbrev pub BehindVariables : List Record → Type 0
 BehindVariables [] = ⊥
-BehindVariables (r ∷ rest) = (2 ≤ kindOf r) × (kindOf r ≤ 5)
+BehindVariables (r ∷ rest) = (2 ≤ kindOf r) × (kindOf r ≤ 6)
 
 -- at a place of the file, with the records to come
 pub record Drafted (file counts : List ℕ) (p : Progress) (to-come : List Record) : Type 0 where
@@ -63,10 +63,22 @@ pub record Keeps (counts : List ℕ) (P : Progress → Type 0) (r : Step) : Type
 abbrev pub RepeatedIn : Lists → ℕ → Type 0
 RepeatedIn l place = Repeated (l .situation) (bytesOfPresent (l .situation) + 2 * length (l .variables)) (l .actions) place
 
--- the first of the conditions, and what stands for it where there is none
-abbrev pub firstCondition : List Condition → Condition
-firstCondition [] = unlentCondition
-firstCondition (c ∷ rest) = c
+-- the first of some entries, and what stands for it where there is none
+abbrev pub firstOr : {A : Type 0} → A → List A → A
+firstOr other [] = other
+firstOr other (x ∷ rest) = x
+
+-- a crew may come: the first where its tasks may, and any other behind a seed
+abbrev pub CrewGoesOn : Bool → ℕ → Type 0
+CrewGoesOn first last = pick first (TasksGoOn last) (last ≡ 5)
+
+-- what opens a crew, unless it is the first
+abbrev pub openingRecord : Bool → List Record
+openingRecord first = pick first [] (crew ∷ [])
+
+-- crews with the end, from an entry of the lent bytes on: the first has no opening
+abbrev pub crewsToCome : ℕ → List Team → List Record
+crewsToCome i teams = pick (eqb i 0) (crewRecords teams) (behind teams)
 
 -- the refusal of a step that does not go on
 abbrev pub refusalOf : Step → Judged

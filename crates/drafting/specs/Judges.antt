@@ -4,11 +4,11 @@ use Prim.Native.Nat.{ℕ}
 use mathlib.Core.Path.{_≡_}
 use mathlib.Core.List.{List}
 use lib.ListN.{length}
-use Rattle.study.specs.Study.{Study}
+use Rattle.study.specs.Study.{Roster}
 use Rattle.study.specs.Reading.{says, refused, reading}
 use Rattle.drafting.specs.declared.Judged.{Judged}
 use Rattle.drafting.specs.declared.Judged.the-variants as Said-of
 
 abbrev pub JudgedAs : List ℕ → Judged → Type 0
-JudgedAs file (Said-of.Good n) = ((s : Study) × (reading file ≡ says s)) × (n ≡ length file)
+JudgedAs file (Said-of.Good n) = ((r : Roster) × (reading file ≡ says r)) × (n ≡ length file)
 JudgedAs file (Said-of.Refused n place) = reading file ≡ refused n place

@@ -7,10 +7,10 @@ ghost use lib.ListN.{length, drop, getD};
 ghost use Rattle.study.specs.Reading.{Record, variable, action, task, seed, end};
 ghost use Rattle.tables.specs.Rows.{countColumn};
 ghost use Rattle.pacing.specs.Reads.{Bounds, origin};
-ghost use Rattle.spelling.specs.Lists.{Lists, conditionRecord, timesRecord, presentRecord, taskRecord, actionRecords, fileOf};
-ghost use Rattle.spelling.specs.Lent.{conditionsIn, firstOf, actionsIn, errandsIn, lent};
+ghost use Rattle.spelling.specs.Lists.{Lists, conditionRecord, timesRecord, presentRecord, taskRecord, actionRecords, crewRecords, fileOf};
+ghost use Rattle.spelling.specs.Lent.{number, unlentCondition, unlentErrand, conditionsIn, firstOf, actionsIn, errandsIn, crewsIn, lent};
 ghost use Rattle.drafting.specs.Judges.{JudgedAs};
-ghost use Rattle.drafting.specs.Drafts.{NoVariableYet, VariablesGoOn, ActionsGoOn, TasksGoOn, BehindVariables, Drafted, Leads, Keeps, RepeatedIn, firstCondition, refusalOf};
+ghost use Rattle.drafting.specs.Drafts.{NoVariableYet, VariablesGoOn, ActionsGoOn, TasksGoOn, BehindVariables, Drafted, Leads, Keeps, RepeatedIn, CrewGoesOn, openingRecord, firstOr, refusalOf};
 use entering::Progress;
 use entering::Step;
 use judging::order;
@@ -41,7 +41,7 @@ fn judge_present(n: u8) -> Step
         own: 0,
         above: 0,
         many: 0,
-        seed: 0,
+        crews: 0,
         used: 0,
     };
     if n == 0 {
@@ -104,7 +104,7 @@ fn judge_condition(p: Progress, conditions: &[u8], i: usize, rows: &[[u8; 3]; 32
     requires { ⌜ Bounds p (countColumn (now rows)) × (2 ≤ p .last) × (p .last ≤ 3) × (i ≤ length (now conditions)) ⌝ }
     ensures { λ r. ⌜ Keeps (countColumn (now (rows .entry))) (λ q. (q .last ≡ 3) × (i + 2 ≤ length (now (conditions .entry))) × (q .actions ≡ p .actions)) r ⌝ }
     ensures { λ r. ⌜ ((file : List ℕ) (rest : List Record)
-        → Drafted file (countColumn (now (rows .entry))) p (conditionRecord (firstCondition (conditionsIn (drop i (now (conditions .entry))))) ∷ rest)
+        → Drafted file (countColumn (now (rows .entry))) p (conditionRecord (firstOr unlentCondition (conditionsIn (drop i (now (conditions .entry))))) ∷ rest)
         → Leads file (countColumn (now (rows .entry))) rest r) ⌝ }
 {
     let next = p.at + 3;
@@ -126,7 +126,7 @@ fn judge_conditions(
     ensures { λ r. ⌜ Keeps (countColumn (now (rows .entry)))
         (λ q. (2 ≤ q .last) × (q .last ≤ 3) × (used + 2 * many ≤ length (now (conditions .entry))) × (q .actions ≡ begin .actions)) r ⌝ }
     ensures { λ r. ⌜ ((file : List ℕ) (rest : List Record)
-        → Drafted file (countColumn (now (rows .entry))) begin (map conditionRecord (firstOf many (conditionsIn (drop used (now (conditions .entry))))) ++ rest)
+        → Drafted file (countColumn (now (rows .entry))) begin (map conditionRecord (firstOf unlentCondition many (conditionsIn (drop used (now (conditions .entry))))) ++ rest)
         → Leads file (countColumn (now (rows .entry))) rest r) ⌝ }
 {
     let mut p = begin;
@@ -214,12 +214,12 @@ fn judge_actions(begin: Progress, actions: &[u8], conditions: &[u8], rows: &[[u8
     judge_action(p, UNLENT, UNLENT, UNLENT, rows)
 }
 
-fn judge_task(p: Progress, v: u8, start: u8, goal: u8, rows: &mut [[u8; 3]; 32]) -> Step
+fn judge_task(p: Progress, v: u8, start: u8, goal: u8, rows: &[[u8; 3]; 32]) -> Step
     requires { ⌜ Bounds p (countColumn (now rows)) × TasksGoOn (p .last) ⌝ }
-    ensures { λ r. ⌜ Keeps (countColumn (now (rows .exit))) (λ q. TasksGoOn (q .last)) r ⌝ }
+    ensures { λ r. ⌜ Keeps (countColumn (now (rows .entry))) (λ q. TasksGoOn (q .last) × (v < 32)) r ⌝ }
     ensures { λ r. ⌜ ((file : List ℕ) (rest : List Record)
         → Drafted file (countColumn (now (rows .entry))) p (task v start goal ∷ rest)
-        → Leads file (countColumn (now (rows .exit))) rest r) ⌝ }
+        → Leads file (countColumn (now (rows .entry))) rest r) ⌝ }
 {
     if p.vars <= p.tasks {
         return Step::Refused {
@@ -230,27 +230,152 @@ fn judge_task(p: Progress, v: u8, start: u8, goal: u8, rows: &mut [[u8; 3]; 32])
     entering::on_task(p, v, start, goal, p.at + 4, rows)
 }
 
-fn judge_tasks(begin: Progress, tasks: &[u8], rows: &mut [[u8; 3]; 32]) -> Step
-    requires { ⌜ Bounds begin (countColumn (now rows)) × TasksGoOn (begin .last) ⌝ }
-    ensures { λ r. ⌜ Keeps (countColumn (now (rows .exit))) (λ q. TasksGoOn (q .last)) r ⌝ }
+// The task at a place of the lent bytes: one that is not lent never goes on.
+fn judge_lent(p: Progress, tasks: &[u8], i: usize, rows: &[[u8; 3]; 32]) -> Step
+    requires { ⌜ Bounds p (countColumn (now rows)) × TasksGoOn (p .last) × (i ≤ length (now tasks)) ⌝ }
+    ensures { λ r. ⌜ Keeps (countColumn (now (rows .entry))) (λ q. TasksGoOn (q .last) × (i + 3 ≤ length (now (tasks .entry)))) r ⌝ }
     ensures { λ r. ⌜ ((file : List ℕ) (rest : List Record)
-        → Drafted file (countColumn (now (rows .entry))) begin (map taskRecord (errandsIn (now (tasks .entry))) ++ rest)
-        → Leads file (countColumn (now (rows .exit))) rest r) ⌝ }
+        → Drafted file (countColumn (now (rows .entry))) p (taskRecord (firstOr unlentErrand (errandsIn (drop i (now (tasks .entry))))) ∷ rest)
+        → Leads file (countColumn (now (rows .entry))) rest r) ⌝ }
+{
+    if tasks.len() - i < 3 {
+        return judge_task(p, UNLENT, UNLENT, UNLENT, rows);
+    }
+    judge_task(p, tasks[i], tasks[i + 1], tasks[i + 2], rows)
+}
+
+// The tasks of one crew, so many of them, from a place of the lent bytes on.
+fn judge_tasks(
+    begin: Progress,
+    many: usize,
+    tasks: &[u8],
+    used: usize,
+    rows: &[[u8; 3]; 32],
+) -> Step
+    requires { ⌜ Bounds begin (countColumn (now rows)) × TasksGoOn (begin .last) × (used ≤ length (now tasks)) ⌝ }
+    ensures { λ r. ⌜ Keeps (countColumn (now (rows .entry))) (λ q. TasksGoOn (q .last) × (used + 3 * many ≤ length (now (tasks .entry)))) r ⌝ }
+    ensures { λ r. ⌜ ((file : List ℕ) (rest : List Record)
+        → Drafted file (countColumn (now (rows .entry))) begin (map taskRecord (firstOf unlentErrand many (errandsIn (drop used (now (tasks .entry))))) ++ rest)
+        → Leads file (countColumn (now (rows .entry))) rest r) ⌝ }
 {
     let mut p = begin;
-    let mut i = 0;
-    while 3 <= tasks.len() - i {
-        let step = judge_task(p, tasks[i], tasks[i + 1], tasks[i + 2], rows);
+    let mut i = used;
+    let mut left = many;
+    while 0 < left {
+        let step = judge_lent(p, tasks, i, rows);
         let Step::On(after) = step else {
             return step;
         };
         p = after;
         i += 3;
+        left -= 1;
     }
-    if i == tasks.len() {
+    Step::On(p)
+}
+
+// The opening of a crew, unless it is the first.
+fn judge_opening(p: Progress, first: bool) -> Step
+    requires { ⌜ CrewGoesOn first (p .last) × (p .at ≤ 30000) ⌝ }
+    ensures { λ r. ⌜ ((counts : List ℕ) → Bounds p counts → Keeps counts (λ q. TasksGoOn (q .last)) r) ⌝ }
+    ensures { λ r. ⌜ ((file counts : List ℕ) (rest : List Record)
+        → Drafted file counts p (openingRecord first ++ rest)
+        → Leads file counts rest r) ⌝ }
+{
+    if first {
         return Step::On(p);
     }
-    judge_task(p, UNLENT, UNLENT, UNLENT, rows)
+    entering::on_crew(p, p.at + 1)
+}
+
+fn judge_seed(p: Progress, n: u64) -> Step
+    requires { ⌜ TasksGoOn (p .last) × (p .at ≤ 30000) × (p .crews < 8) ⌝ }
+    ensures { λ r. ⌜ ((counts : List ℕ) → Bounds p counts → Keeps counts (λ q. q .last ≡ 5) r) ⌝ }
+    ensures { λ r. ⌜ ((file counts : List ℕ) (rest : List Record)
+        → Drafted file counts p (seed n ∷ rest)
+        → Leads file counts rest r) ⌝ }
+{
+    if !order::may_follow(p.tasks < p.vars, p.last, 5) {
+        return Step::Refused {
+            number: 3,
+            place: p.at,
+        };
+    }
+    entering::judge_seed(p, n, p.at + 5)
+}
+
+// One crew: its opening, so many tasks from a place of the lent bytes on, and its seed.
+fn judge_crew(
+    p: Progress,
+    first: bool,
+    many: usize,
+    n: u64,
+    tasks: &[u8],
+    used: usize,
+    rows: &[[u8; 3]; 32],
+) -> Step
+    requires { ⌜ Bounds p (countColumn (now rows)) × CrewGoesOn first (p .last) × (used ≤ length (now tasks)) ⌝ }
+    ensures { λ r. ⌜ Keeps (countColumn (now (rows .entry))) (λ q. (q .last ≡ 5) × (used + 3 * many ≤ length (now (tasks .entry)))) r ⌝ }
+    ensures { λ r. ⌜ ((file : List ℕ) (rest : List Record)
+        → Drafted file (countColumn (now (rows .entry))) p
+        (openingRecord first ++ (map taskRecord (firstOf unlentErrand many (errandsIn (drop used (now (tasks .entry))))) ++ (seed n ∷ rest)))
+        → Leads file (countColumn (now (rows .entry))) rest r) ⌝ }
+{
+    let by_opening = judge_opening(p, first);
+    let Step::On(opened) = by_opening else {
+        return by_opening;
+    };
+    let by_tasks = judge_tasks(opened, many, tasks, used, rows);
+    let Step::On(tasked) = by_tasks else {
+        return by_tasks;
+    };
+    judge_seed(tasked, n)
+}
+
+fn seed_of(a: u8, b: u8, c: u8, d: u8) -> u64
+    ensures { λ r. ⌜ r ≡ number a b c d ⌝ }
+{
+    (((a as u64) * 256 + (b as u64)) * 256 + (c as u64)) * 256 + (d as u64)
+}
+
+// How many tasks stand in so many bytes, one that is cut short counted too.
+fn tasks_in(len: usize) -> usize
+    ensures { λ r. ⌜ (len ≤ 3 * r) × (3 * r ≤ len + 2) ⌝ }
+{
+    let whole = len / 3;
+    if whole * 3 == len {
+        return whole;
+    }
+    whole + 1
+}
+
+// Bytes or tasks that are left make one crew more, each byte of whose seed is not lent.
+fn judge_crews(begin: Progress, crews: &[u8], tasks: &[u8], rows: &[[u8; 3]; 32]) -> Step
+    requires { ⌜ Bounds begin (countColumn (now rows)) × TasksGoOn (begin .last) ⌝ }
+    ensures { λ r. ⌜ Keeps (countColumn (now (rows .entry))) (λ q. q .at ≤ 30000) r ⌝ }
+    ensures { λ r. ⌜ ((file : List ℕ)
+        → Drafted file (countColumn (now (rows .entry))) begin (crewRecords (crewsIn (now (crews .entry)) (errandsIn (now (tasks .entry)))))
+        → Leads file (countColumn (now (rows .entry))) (end ∷ []) r) ⌝ }
+{
+    let mut p = begin;
+    let mut i = 0;
+    let mut used = 0;
+    while 5 <= crews.len() - i {
+        let many = tables::wide(crews[i]);
+        let n = seed_of(crews[i + 1], crews[i + 2], crews[i + 3], crews[i + 4]);
+        let step = judge_crew(p, i == 0, many, n, tasks, used, rows);
+        let Step::On(after) = step else {
+            return step;
+        };
+        p = after;
+        used += 3 * many;
+        i += 5;
+    }
+    if i == crews.len() && used == tasks.len() {
+        return Step::On(p);
+    }
+    let rest = tasks_in(tasks.len() - used);
+    let n = seed_of(UNLENT, UNLENT, UNLENT, UNLENT);
+    judge_crew(p, i == 0, rest, n, tasks, used, rows)
 }
 
 fn refusal(step: Step) -> Judged
@@ -265,38 +390,34 @@ fn refusal(step: Step) -> Judged
     }
 }
 
-// The seed, and behind it the end, which may always come there and decides 7 and 21.
-fn judge_end(p: Progress, n: u32, repeat: usize) -> Judged
+// The end, which may come behind a seed and decides 7 and 21.
+fn judge_end(p: Progress, repeat: usize) -> Judged
     requires { ⌜ p .at ≤ 30000 ⌝ }
     ensures { λ r. ⌜ ((l : Lists) (counts : List ℕ)
-        → Drafted (fileOf l) counts p (seed n ∷ end ∷ [])
+        → Drafted (fileOf l) counts p (end ∷ [])
         → RepeatedIn l repeat
         → JudgedAs (fileOf l) r) ⌝ }
 {
-    if !order::may_follow(p.tasks < p.vars, p.last, 5) {
+    if p.last != 5 {
         return Judged::Refused {
             number: 3,
             place: p.at,
         };
     }
-    let step = entering::on_seed(p, n as u64, p.at + 5);
-    let Step::On(seeded) = step else {
-        return refusal(step);
-    };
     if repeat != 0 {
         return Judged::Refused {
             number: 7,
             place: repeat,
         };
     }
-    let unused = tables::wide(bits::lowest_clear(seeded.used));
-    if unused < seeded.vars {
+    let unused = tables::wide(bits::lowest_clear(p.used));
+    if unused < p.vars {
         return Judged::Refused {
             number: 21,
             place: unused,
         };
     }
-    Judged::Good(seeded.at + 1)
+    Judged::Good(p.at + 1)
 }
 
 // What the reader says of the file that the lists stand for.
@@ -305,10 +426,10 @@ pub fn judge(
     variables: &[u8],
     actions: &[u8],
     conditions: &[u8],
+    crews: &[u8],
     tasks: &[u8],
-    seed: u32,
 ) -> Judged
-    ensures { λ r. ⌜ JudgedAs (fileOf (lent situation (now (variables .entry)) (now (actions .entry)) (now (conditions .entry)) (now (tasks .entry)) seed)) r ⌝ }
+    ensures { λ r. ⌜ JudgedAs (fileOf (lent situation (now (variables .entry)) (now (actions .entry)) (now (conditions .entry)) (now (crews .entry)) (now (tasks .entry)))) r ⌝ }
 {
     let by_situation = judge_present(situation);
     let Step::On(opened) = by_situation else {
@@ -323,10 +444,10 @@ pub fn judge(
     let Step::On(acted) = by_actions else {
         return refusal(by_actions);
     };
-    let by_tasks = judge_tasks(acted, tasks, &mut rows);
-    let Step::On(tasked) = by_tasks else {
-        return refusal(by_tasks);
+    let by_crews = judge_crews(acted, crews, tasks, &rows);
+    let Step::On(manned) = by_crews else {
+        return refusal(by_crews);
     };
     let repeat = repeats::first_repeat(situation, begun.at, actions);
-    judge_end(tasked, seed, repeat)
+    judge_end(manned, repeat)
 }

@@ -25,7 +25,7 @@ afterVariable p next =
       own = p .own;
       above = p .above;
       many = p .many;
-      seed = p .seed;
+      crews = p .crews;
       used = p .used;
     }
 
@@ -41,7 +41,7 @@ afterAction p v next =
       own = v;
       above = 0;
       many = 0;
-      seed = p .seed;
+      crews = p .crews;
       used = marked (p .used) v;
     }
 
@@ -57,7 +57,7 @@ afterCondition p v next =
       own = p .own;
       above = v + 1;
       many = p .many + 1;
-      seed = p .seed;
+      crews = p .crews;
       used = marked (p .used) v;
     }
 
@@ -73,12 +73,12 @@ afterTask p next =
       own = p .own;
       above = p .above;
       many = p .many;
-      seed = p .seed;
+      crews = p .crews;
       used = p .used;
     }
 
-abbrev pub afterSeed : Progress → ℕ → ℕ → Progress
-afterSeed p n next =
+abbrev pub afterSeed : Progress → ℕ → Progress
+afterSeed p next =
     record {
       at = next;
       situation = p .situation;
@@ -89,7 +89,7 @@ afterSeed p n next =
       own = p .own;
       above = p .above;
       many = p .many;
-      seed = n;
+      crews = p .crews + 1;
       used = p .used;
     }
 
@@ -105,7 +105,7 @@ afterTimes p next =
       own = p .own;
       above = p .above;
       many = p .many;
-      seed = p .seed;
+      crews = p .crews;
       used = p .used;
     }
 
@@ -121,7 +121,23 @@ afterPresent p n next =
       own = p .own;
       above = p .above;
       many = p .many;
-      seed = p .seed;
+      crews = p .crews;
+      used = p .used;
+    }
+
+abbrev pub afterCrew : Progress → ℕ → Progress
+afterCrew p next =
+    record {
+      at = next;
+      situation = p .situation;
+      vars = p .vars;
+      actions = p .actions;
+      tasks = 0;
+      last = 9;
+      own = p .own;
+      above = p .above;
+      many = p .many;
+      crews = p .crews;
       used = p .used;
     }
 

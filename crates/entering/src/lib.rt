@@ -1,16 +1,16 @@
 // One record taken: its fault, or its entry in the tables.
 ghost use mathlib.Core.Path.{_≡_};
 ghost use mathlib.Core.List.{List};
-ghost use Prim.Native.Nat.{ℕ, _≤_, _<_, _+_, _-_};
+ghost use Prim.Native.Nat.{ℕ, _≤_, _<_, _+_, _-_, _*_};
 ghost use Rattle.tables.specs.Rows.{countColumn, startColumn, goalColumn, seen};
-ghost use Rattle.judging.specs.Faults.{variableFault, actionFault, conditionFault, taskFault, seedFault, timesFault, presentFault};
-ghost use Rattle.entering.specs.Steps.{afterVariable, afterAction, afterCondition, afterTask, afterSeed, afterTimes, afterPresent, unlessFault, stored, storedAction, storedMany, withMany, outBy};
+ghost use Rattle.judging.specs.Faults.{variableFault, actionFault, conditionFault, taskFault, seedFault, timesFault, presentFault, crewFault};
+ghost use Rattle.entering.specs.Steps.{afterVariable, afterAction, afterCondition, afterTask, afterSeed, afterTimes, afterPresent, afterCrew, unlessFault, stored, storedAction, storedMany, withMany, outBy};
 use judging::faults;
 
-// Where the reading stands: the place to read on from, how many variables, actions and tasks were read, the variables that an
-// action changes or a condition names, as a set of bits, the kind of the last record, the variable of the last action, the
-// least variable that its next condition may name, how many conditions it has, the situation, and the seed. The order is one
-// that the compiler takes apart: in most others it keeps the struct in memory, and reading costs up to 37 % more.
+// Where the reading stands: the place to read on from, how many variables, actions, tasks of the crew and crews with their seed
+// were read, the variables that an action changes or a condition names, as a set of bits, the kind of the last record, the
+// variable of the last action, the least variable that its next condition may name, how many conditions it has, and the
+// situation. The order is one that the compiler takes apart: in most others it keeps the struct in memory, and reading costs more.
 pub struct Progress {
     pub at: usize,
     pub vars: usize,
@@ -22,7 +22,7 @@ pub struct Progress {
     pub above: u8,
     pub many: u8,
     pub situation: u8,
-    pub seed: u64,
+    pub crews: usize,
 }
 
 // What one record leads to.
@@ -58,13 +58,15 @@ pub fn on_variable(p: Progress, n: u8, next: usize, rows: &mut [[u8; 3]; 32]) ->
         own: p.own,
         above: p.above,
         many: p.many,
-        seed: p.seed,
+        crews: p.crews,
         used: p.used,
     })
 }
 
-pub fn on_seed(p: Progress, n: u64, next: usize) -> Step
-    ensures { λ r. ⌜ r ≡ unlessFault (seedFault n) p (afterSeed p n next) ⌝ }
+// Judges a seed: its fault, or where the reading stands after it.
+pub fn judge_seed(p: Progress, n: u64, next: usize) -> Step
+    requires { ⌜ p .crews < 8 ⌝ }
+    ensures { λ r. ⌜ r ≡ unlessFault (seedFault n) p (afterSeed p next) ⌝ }
 {
     let fault = faults::seed_fault(n);
     if fault != 0 {
@@ -83,24 +85,56 @@ pub fn on_seed(p: Progress, n: u64, next: usize) -> Step
         own: p.own,
         above: p.above,
         many: p.many,
-        seed: n,
+        crews: p.crews + 1,
         used: p.used,
     })
 }
 
-pub fn on_task(
-    p: Progress,
-    v: u8,
-    start: u8,
-    goal: u8,
-    next: usize,
-    rows: &mut [[u8; 3]; 32],
-) -> Step
+// The seed stands behind the crew's tasks: where the first of them stands is entered.
+pub fn on_seed(p: Progress, n: u64, next: usize, crews: &mut [u16; 8]) -> Step
+    requires { ⌜ (p .crews < 8) × (4 * p .tasks ≤ p .at) × (p .at < 65536) ⌝ }
+    ensures { λ r. ⌜ r ≡ unlessFault (seedFault n) p (afterSeed p next) ⌝ }
+    ensures { λ _. ⌜ now (crews .exit) ≡ stored (seedFault n) (now (crews .entry)) (p .crews) (p .at - 4 * p .tasks) ⌝ }
+{
+    let step = judge_seed(p, n, next);
+    let Step::On(_) = step else {
+        return step;
+    };
+    let c = p.crews;
+    crews[c] = (p.at - 4 * p.tasks) as u16;
+    step
+}
+
+// Opens the next crew.
+pub fn on_crew(p: Progress, next: usize) -> Step
+    ensures { λ r. ⌜ r ≡ unlessFault (crewFault (p .crews)) p (afterCrew p next) ⌝ }
+{
+    let fault = faults::crew_fault(p.crews);
+    if fault != 0 {
+        return Step::Refused {
+            number: fault,
+            place: p.at,
+        };
+    }
+    Step::On(Progress {
+        at: next,
+        situation: p.situation,
+        vars: p.vars,
+        actions: p.actions,
+        tasks: 0,
+        last: 9,
+        own: p.own,
+        above: p.above,
+        many: p.many,
+        crews: p.crews,
+        used: p.used,
+    })
+}
+
+// A task is judged, and stays in the file.
+pub fn on_task(p: Progress, v: u8, start: u8, goal: u8, next: usize, rows: &[[u8; 3]; 32]) -> Step
     requires { ⌜ p .vars ≤ 32 ⌝ }
     ensures { λ r. ⌜ r ≡ unlessFault (taskFault (countColumn (now (rows .entry))) (p .vars) (p .tasks) v start goal) p (afterTask p next) ⌝ }
-    ensures { λ r. ⌜ (countColumn (now (rows .exit)) ≡ countColumn (now (rows .entry)))
-        × (startColumn (now (rows .exit)) ≡ stored (taskFault (countColumn (now (rows .entry))) (p .vars) (p .tasks) v start goal) (startColumn (now (rows .entry))) v start)
-        × (goalColumn (now (rows .exit)) ≡ stored (taskFault (countColumn (now (rows .entry))) (p .vars) (p .tasks) v start goal) (goalColumn (now (rows .entry))) v goal) ⌝ }
 {
     let fault = faults::task_fault(rows, p.vars, p.tasks, v, start, goal);
     if fault != 0 {
@@ -109,9 +143,6 @@ pub fn on_task(
             place: p.at,
         };
     }
-    let i = v as usize;
-    let row = rows[i];
-    rows[i] = [row[0], start, goal];
     Step::On(Progress {
         at: next,
         situation: p.situation,
@@ -122,7 +153,7 @@ pub fn on_task(
         own: p.own,
         above: p.above,
         many: p.many,
-        seed: p.seed,
+        crews: p.crews,
         used: p.used,
     })
 }
@@ -158,7 +189,7 @@ pub fn judge_condition(p: Progress, v: u8, q: u8, next: usize, rows: &[[u8; 3]; 
         own: p.own,
         above: v + 1,
         many: p.many + 1,
-        seed: p.seed,
+        crews: p.crews,
         used: bits::mark(p.used, v),
     })
 }
@@ -213,7 +244,7 @@ pub fn judge_action(
         own: v,
         above: 0,
         many: 0,
-        seed: p.seed,
+        crews: p.crews,
         used: bits::mark(p.used, v),
     })
 }
@@ -270,7 +301,7 @@ pub fn judge_times(p: Progress, n: u8, next: usize) -> Step
         own: p.own,
         above: p.above,
         many: p.many,
-        seed: p.seed,
+        crews: p.crews,
         used: p.used,
     })
 }
@@ -320,7 +351,7 @@ pub fn on_present(p: Progress, n: u8, next: usize) -> Step
         own: p.own,
         above: p.above,
         many: p.many,
-        seed: p.seed,
+        crews: p.crews,
         used: p.used,
     })
 }

@@ -1,4 +1,4 @@
--- What a refusal of planning a file with its own seed says of the study, and what is told of it.
+-- What a refusal of planning a file for a crew with its own seed says of the study, and what is told of it.
 -- Assumes nothing.
 use Prim.Native.Nat.{ℕ, _≤_}
 use native.Mathlib.Omega.{arith}
@@ -11,7 +11,7 @@ use Rattle.answer.specs.declared.Answer.{Answer}
 use Rattle.ranking.specs.Ranking.{tested}
 use Rattle.ranking.specs.declared.Tested.the-variants.{Fine}
 use Rattle.study.specs.Study.{Study}
-use Rattle.study.specs.Reading.{Said, says, refused, reading}
+use Rattle.study.specs.Reading.{Said, says, refused, readingFor}
 use Rattle.lawful.specs.Lawful.{Lawful}
 use Rattle.orders.specs.Orders.{OnRing}
 use Rattle.walks.specs.Walks.{Walks, Met, OnAWalk, ComesBefore}
@@ -49,9 +49,9 @@ way-bars lawful fine room (planned _ p (fits l)) some = absurd (some refl)
 
 -- the same of a file
 pub seeded-bars :
-    (file : List ℕ) {t : Study} (after : List ℕ) {r : Answer} → Lawful t → reading file ≡ says t
-    → PlansSeeded (reading file) (replicate 256 0) r after → r .number ≢ 0 → Bars t r
-seeded-bars file {t} after lawful said plans some =
+    (file : List ℕ) (crew : ℕ) {t : Study} (after : List ℕ) {r : Answer} → Lawful t → readingFor file crew ≡ says t
+    → PlansSeeded (readingFor file crew) (replicate 256 0) r after → r .number ≢ 0 → Bars t r
+seeded-bars file crew {t} after lawful said plans some =
     way-bars lawful (drawn-fine (t .seed) (length (t .actions))) (omega arith) (way-of (rw said at plans)) some
 
 -- 12
@@ -96,7 +96,7 @@ abbrev refusedText : Answer → List ℕ
 refusedText r = refusedLine (r .number) (r .first) (r .second)
 
 told-said :
-    (said : Said) (buffer : List ℕ) (r : Answer) (text : List ℕ)
+    (said : Said Study) (buffer : List ℕ) (r : Answer) (text : List ℕ)
     → ((t : Study) → said ≡ says t → (list : List Fact) × (Why t r list × (text ≡ refusedText r ++ factLines list)))
     → ((number place : ℕ) → said ≡ refused number place → text ≡ refusedText r) → Told said buffer r text
 told-said (says t) buffer r text of-study of-refused =
@@ -106,11 +106,11 @@ told-said (refused number place) buffer r text of-study of-refused =
 
 -- a refusal's line, and the facts where the file says a study
 pub refusal-explained :
-    (file buffer : List ℕ) (r : Answer) (text : List ℕ) → PlansSeeded (reading file) (replicate 256 0) r buffer
-    → ((t : Study) → reading file ≡ says t → (list : List Fact) × (Why t r list × (text ≡ refusedText r ++ factLines list)))
-    → ((number place : ℕ) → reading file ≡ refused number place → text ≡ refusedText r) → Explained (reading file) text
-refusal-explained file buffer r text plans of-study of-refused =
-    record { answer = r; buffer = buffer; plans = plans; told = told-said (reading file) buffer r text of-study of-refused }
+    (file : List ℕ) (crew : ℕ) (buffer : List ℕ) (r : Answer) (text : List ℕ) → PlansSeeded (readingFor file crew) (replicate 256 0) r buffer
+    → ((t : Study) → readingFor file crew ≡ says t → (list : List Fact) × (Why t r list × (text ≡ refusedText r ++ factLines list)))
+    → ((number place : ℕ) → readingFor file crew ≡ refused number place → text ≡ refusedText r) → Explained (readingFor file crew) text
+refusal-explained file crew buffer r text plans of-study of-refused =
+    record { answer = r; buffer = buffer; plans = plans; told = told-said (readingFor file crew) buffer r text of-study of-refused }
 
 pub no-lines : (text : List ℕ) → text ++ factLines [] ≡ text
 unfolding factLines

@@ -1,4 +1,4 @@
--- One text for a file: what explains its answer is determined.
+-- One text for a file and a crew: what explains the answer is determined.
 -- Assumes nothing.
 use Prim.Native.Nat.{ℕ}
 use native.Mathlib.Omega.{arith}
@@ -8,9 +8,9 @@ use mathlib.Core.List.{List, _++_}
 use lib.ListN.{take}
 use Rattle.answer.specs.declared.Answer.{Answer}
 use Rattle.study.specs.Study.{Study}
-use Rattle.study.specs.Reading.{Said, says, refused, reading}
+use Rattle.study.specs.Reading.{Said, says, refused, readingFor}
 use Rattle.lawful.specs.Lawful.{Lawful}
-use Rattle.lawful.proofs.Loads.{loads-lawful}
+use Rattle.lawful.proofs.Loads.{heard-lawful}
 use Rattle.walks.specs.Walks.{OnAWalk}
 use Rattle.planning.specs.Planning.{Plans, wrong-length, wrong-entry, no-walk, off-walk, ring, no-room, a-plan}
 use Rattle.planning.proofs.Determined.{plans-determined}
@@ -70,13 +70,13 @@ why-once {t} {r} {a} {b} lawful on p q = go (why-as p) (why-as q)
 abbrev refusedText : Answer → List ℕ
 refusedText r = refusedLine (r .number) (r .first) (r .second)
 
-abbrev TextOf : Said → List ℕ → Answer → List ℕ → Type 0
+abbrev TextOf : Said Study → List ℕ → Answer → List ℕ → Type 0
 TextOf (says t) buffer r text =
     ((r .number ≡ 0) × (text ≡ planExplained t (take (r .first) buffer)))
     ⊎ ((facts : List Fact) × (Why t r facts × (text ≡ refusedText r ++ factLines facts)))
 TextOf (refused number place) buffer r text = text ≡ refusedText r
 
-told-text : {said : Said} {buffer : List ℕ} {r : Answer} {text : List ℕ} → Told said buffer r text → TextOf said buffer r text
+told-text : {said : Said Study} {buffer : List ℕ} {r : Answer} {text : List ℕ} → Told said buffer r text → TextOf said buffer r text
 told-text tells-plan = inl (refl, refl)
 told-text (not-planned {facts = facts} why) = inr (facts, (why, refl))
 told-text not-read = refl
@@ -90,13 +90,13 @@ module _ {t : Study} (lawful : Lawful t) (buffer : List ℕ) (r : Answer) (on : 
       p ∙ ap (λ (l : List Fact). refusedText r ++ factLines l) (why-once lawful on why other) ∙ sym q
 
 said-once :
-    (file : List ℕ) (said : Said) → reading file ≡ said → {x y : List ℕ} → (p : Explained said x) (q : Explained said y) → x ≡ y
-said-once file (says t) e {x} {y} p q =
-    let lawful = loads-lawful file t e in
+    (file : List ℕ) (crew : ℕ) (said : Said Study) → readingFor file crew ≡ said → {x y : List ℕ} → (p : Explained said x) (q : Explained said y) → x ≡ y
+said-once file crew (says t) e {x} {y} p q =
+    let lawful = heard-lawful file crew t e in
     let (same, stays) = plans-determined lawful (p .plans) (q .plans) in
     text-once lawful (p .buffer) (p .answer) (off-on-walk (p .plans)) (told-text (p .told)) (rw (same, stays) (told-text (q .told)))
-said-once file (refused number place) e p q =
+said-once file crew (refused number place) e p q =
     told-text (p .told) ∙ ap refusedText (p .plans .0 ∙ sym (q .plans .0)) ∙ sym (told-text (q .told))
 
-pub explained-once : (file : List ℕ) {x y : List ℕ} → Explained (reading file) x → Explained (reading file) y → x ≡ y
-explained-once file p q = said-once file (reading file) refl p q
+pub explained-once : (file : List ℕ) (crew : ℕ) {x y : List ℕ} → Explained (readingFor file crew) x → Explained (readingFor file crew) y → x ≡ y
+explained-once file crew p q = said-once file crew (readingFor file crew) refl p q

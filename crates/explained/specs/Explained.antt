@@ -1,4 +1,4 @@
--- The whole text of an explanation: the answer to planning a file with its own seed, and the facts that explain it.
+-- The whole text of an explanation: the answer to planning a file for a crew with its own seed, and the facts that explain it.
 -- Assumes nothing.
 use Prim.Native.Nat.{ℕ, suc}
 use mathlib.Core.List.{List, [], _∷_, _++_}
@@ -33,7 +33,7 @@ pub data Why (t : Study) : Answer → List Fact → Type 0 where
   on-ring : {n : ℕ} {facts : List Fact} → Circled t facts → Why t (withRing n) facts
 
 -- the text of an answer, with the buffer that holds the plan
-pub data Told : Said → List ℕ → Answer → List ℕ → Type 0 where
+pub data Told : Said Study → List ℕ → Answer → List ℕ → Type 0 where
   a-plan : {t : Study} {buffer : List ℕ} {n : ℕ} → Told (says t) buffer (done n 0) (planExplained t (take n buffer))
   not-planned :
       {t : Study} {buffer : List ℕ} {r : Answer} {facts : List Fact}
@@ -42,7 +42,7 @@ pub data Told : Said → List ℕ → Answer → List ℕ → Type 0 where
       {number place : ℕ} {buffer : List ℕ} {r : Answer} → Told (refused number place) buffer r (refusedLine (r .number) (r .first) (r .second))
 
 -- planning with the seed, into 256 zeros, may give an answer that this text explains
-pub record Explained (said : Said) (text : List ℕ) : Type 0 where
+pub record Explained (said : Said Study) (text : List ℕ) : Type 0 where
   pub answer : Answer
   pub buffer : List ℕ
   pub plans : PlansSeeded said (replicate 256 0) answer buffer

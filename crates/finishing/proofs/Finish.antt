@@ -10,7 +10,7 @@ use lib.Seq.{getD-take, length-take-le, ext-getD}
 use Rattle.answer.specs.Answers.{done, refusal}
 use Rattle.answer.specs.declared.Answer.{Answer}
 use Rattle.study.specs.Study.{Study}
-use Rattle.study.specs.Reading.{says, refused, reading}
+use Rattle.study.specs.Reading.{says, refused, readingFor}
 use Rattle.plans.specs.Plans.{startState}
 use Rattle.plans.proofs.States.{start-value, start-length}
 use Rattle.tables.specs.Rows.{Row, startColumn, Begins}
@@ -25,10 +25,10 @@ use Rattle.finishing.proofs.Goals.{away-shown}
 use Rattle.stepping.proofs.Turns.{is-at, is-nowhere}
 
 pub file-refused :
-    (file plan before : List ℕ) {answer : Answer} {number place : ℕ}
-    → reading file ≡ refused number place → answer ≡ refusal number place → RunAllows file plan before answer before
+    (file : List ℕ) (crew : ℕ) (plan before : List ℕ) {answer : Answer} {number place : ℕ}
+    → readingFor file crew ≡ refused number place → answer ≡ refusal number place → RunAllows file crew plan before answer before
 unfolding ran
-file-refused file plan before e given = rw e (given, refl)
+file-refused file crew plan before e given = rw e (given, refl)
 
 -- a refusal is not 0
 stopped-not-0 : (t : Study) (plan : List ℕ) (a : Answer) → runOn t [] (startState t) 0 plan ≡ stops a → a .number ≢ 0
@@ -95,19 +95,19 @@ module _
               let here = ran-to none (is-nowhere _ e) in
               record { answers = rw (here, shown-length) given; shows = λ z. (here, went .1) }
 
-    module _ (says-so : reading file ≡ says t) (plan before : List ℕ) where
-      pub room-too-short : {answer : Answer} → length before < n → answer ≡ refusal 13 n → RunAllows file plan before answer before
+    module _ (crew : ℕ) (says-so : readingFor file crew ≡ says t) (plan before : List ℕ) where
+      pub room-too-short : {answer : Answer} → length before < n → answer ≡ refusal 13 n → RunAllows file crew plan before answer before
       room-too-short h given = rw (says-so, ran-short t (length before) plan (omega (arith, prepared .counted)), ← prepared .counted) (given, refl)
 
       -- the buffer is long enough
       module _ (enough : n ≤ length before) {table : List ℕ} {answer : Answer} (ends : Ends t plan table answer) where
-        ran-is : ran (reading file) (length before) plan ≡ runOn t [] (startState t) 0 plan
+        ran-is : ran (readingFor file crew) (length before) plan ≡ runOn t [] (startState t) 0 plan
         ran-is = rw says-so (ran-fits t (length before) plan (omega (arith, prepared .counted)))
 
-        pub left-alone : answer .number ≢ 0 → RunAllows file plan before answer before
+        pub left-alone : answer .number ≢ 0 → RunAllows file crew plan before answer before
         left-alone o = rw ran-is (ends .answers, refusal-leaves (runOn t [] (startState t) 0 plan) before (rw (ends .answers) at o))
 
-        pub handed-over : answer .number ≡ 0 → {after : List ℕ} → (n ≤ length table → after ≡ take n table ++ drop n before) → RunAllows file plan before answer after
+        pub handed-over : answer .number ≡ 0 → {after : List ℕ} → (n ≤ length table → after ≡ take n table ++ drop n before) → RunAllows file crew plan before answer after
         handed-over z copied =
             let shows = ends .shows z in
             let fits : n ≤ length table = omega (arith, shows .1, few) in

@@ -5,9 +5,9 @@ use mathlib.Core.List.{List}
 use Prim.Native.Nat.{ℕ, _<_}
 use native.Mathlib.Omega.{arith}
 use Rattle.study.specs.Study.{Study, actionAt}
-use Rattle.study.specs.Reading.{says, reading}
+use Rattle.study.specs.Reading.{says, readingFor}
 use Rattle.lawful.specs.Lawful.{Lawful}
-use Rattle.lawful.proofs.Loads.{loads-lawful}
+use Rattle.lawful.proofs.Loads.{heard-lawful}
 use Rattle.tables.specs.Tables.{Holds}
 use Rattle.tables.specs.Rows.{Row, OpensAction, seenAll}
 use Rattle.tables.specs.declared.Act.{Act}
@@ -15,11 +15,11 @@ use Rattle.stepping.specs.Stepping.{Tells}
 use Rattle.finishing.specs.Finishing.{Prepared}
 
 module _
-    {file : List ℕ} {n actions x : ℕ} {t : Study} (acts vars : List Row) {setters : List ℕ}
-    (says-so : reading file ≡ says t) (holds : Holds file n actions x (seenAll acts vars setters) t)
+    {file : List ℕ} (crew : ℕ) {n actions x : ℕ} {t : Study} (acts vars : List Row) {setters : List ℕ}
+    (says-so : readingFor file crew ≡ says t) (holds : Holds file n actions x (seenAll acts vars setters) t)
   where
     lawful : Lawful t
-    lawful = loads-lawful file t says-so
+    lawful = heard-lawful file crew t says-so
 
     row-tells : (i : ℕ) {act : Act} → i < actions → OpensAction acts i act → Tells file act (actionAt (t .actions) i)
     row-tells i h opens =

@@ -51,7 +51,7 @@ fn run_from(
     answer_of(0, n as u64)
 }
 
-// Runs the list on what was loaded. Answer 0 gives the number of variables and writes the end state; a refusal alters nothing.
+// Runs the list on what was loaded for a crew. Answer 0 gives the number of variables and writes the end state; a refusal alters nothing.
 pub fn run_loaded(
     file: &[u8],
     plan: &[u8],
@@ -60,8 +60,10 @@ pub fn run_loaded(
     vars: &[[u8; 3]; 32],
     state: &mut [u8],
 ) -> Answer
-    requires { ⌜ ((setters : List ℕ) × Loads (now file) (seenAll (now acts) (now vars) setters) loaded) ⌝ }
-    ensures { λ r. ⌜ RunAllows (now (file .entry)) (now (plan .entry)) (now (state .entry)) r (now (state .exit)) ⌝ }
+    requires { ⌜ ((crew : ℕ) × (setters : List ℕ) × Loads (now file) crew (seenAll (now acts) (now vars) setters) loaded) ⌝ }
+    ensures { λ r. ⌜ ((crew : ℕ) (setters : List ℕ)
+        → Loads (now (file .entry)) crew (seenAll (now (acts .entry)) (now (vars .entry)) setters) loaded
+        → RunAllows (now (file .entry)) crew (now (plan .entry)) (now (state .entry)) r (now (state .exit))) ⌝ }
 {
     let Loaded::Study {
         vars: n,

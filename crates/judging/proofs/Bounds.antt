@@ -9,7 +9,7 @@ use lib.Dec.{leb, eqb}
 use lib.ListN.{getD}
 use borrow.Author.Tests.{leb-true, leb-false, eqb-true, eqb-false, not-false}
 use Rattle.plain.proofs.Tests.{picked, not-refused, not-missed}
-use Rattle.judging.specs.Faults.{inTable, variableFault, actionFault, conditionFault, taskFault, presentFault}
+use Rattle.judging.specs.Faults.{inTable, variableFault, actionFault, conditionFault, taskFault, presentFault, crewFault}
 use Rattle.judging.proofs.Tests.{in-table}
 
 both : (a b : Bool) → (a && b) ≡ true → (a ≡ true) × (b ≡ true)
@@ -56,3 +56,7 @@ action-bounds counts {vars} {actions} {v} {p} {q} e =
 pub present-bounds : {n : ℕ} → presentFault n ≡ 0 → n ≤ 7
 unfolding presentFault
 present-bounds {n} e = picked (λ (m : ℕ). m ≡ 0 → n ≤ 7) (leb n 7) (λ low _. leb-true n 7 low) (λ _ m. absurd (omega arith)) e
+
+pub crew-bounds : {crews : ℕ} → crewFault crews ≡ 0 → crews < 8
+unfolding crewFault
+crew-bounds {crews} e = leb-false 8 crews (not-refused (leb 8 crews) 3 _ e .0)

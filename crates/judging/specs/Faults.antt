@@ -38,3 +38,7 @@ timesFault n = pick (eqb n always) 6 0
 
 unfoldable pub presentFault : ℕ → ℕ
 presentFault n = pick (leb n 7) (pick (eqb n 0) 6 0) 5
+
+-- a ninth crew
+unfoldable pub crewFault : ℕ → ℕ
+crewFault crews = pick (leb 8 crews) 4 0

@@ -2,7 +2,7 @@
 ghost use mathlib.Core.Path.{_≡_};
 ghost use Prim.Native.Nat.{_≤_};
 ghost use Rattle.tables.specs.Rows.{countColumn};
-ghost use Rattle.judging.specs.Faults.{inTable, variableFault, actionFault, conditionFault, taskFault, seedFault, timesFault, presentFault};
+ghost use Rattle.judging.specs.Faults.{inTable, variableFault, actionFault, conditionFault, taskFault, seedFault, timesFault, presentFault, crewFault};
 
 // There is such a variable, and the value is one of its values.
 fn in_range(rows: &[[u8; 3]; 32], vars: usize, v: u8, q: u8) -> bool
@@ -114,6 +114,16 @@ pub fn present_fault(n: u8) -> u8
     }
     if n == 0 {
         return 6;
+    }
+    0
+}
+
+// A ninth crew.
+pub fn crew_fault(crews: usize) -> u8
+    ensures { λ r. ⌜ r ≡ crewFault crews ⌝ }
+{
+    if 8 <= crews {
+        return 4;
     }
     0
 }

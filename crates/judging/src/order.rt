@@ -10,7 +10,7 @@ pub fn may_follow(left: bool, last: u8, kind: u8) -> bool
         1 => last <= 1 || last == 8,
         2 => 1 <= last && (last <= 3 || last == 7),
         3 => 2 <= last && last <= 3,
-        4 => left && (1 <= last && (last <= 4 || last == 7)),
+        4 => left && (1 <= last && (last <= 4 || (last == 7 || last == 9))),
         5 => last == 4 && !left,
         7 => 2 <= last && last <= 3,
         8 => last == 0,

@@ -7,8 +7,8 @@ use Prim.Native.Nat.{ℕ, zero, suc, _≤_, _<_}
 use native.Mathlib.Omega.{arith}
 use native.Mathlib.Decide.{decLt}
 use lib.ListN.{length}
-use Rattle.study.specs.Study.{Condition, Study, actionAt, conditionAt}
-use Rattle.lawful.specs.Lawful.{LawfulConditions, Lawful}
+use Rattle.study.specs.Study.{Condition, Action, Study, actionAt, conditionAt}
+use Rattle.lawful.specs.Lawful.{LawfulConditions, LawfulAction, Lawful}
 
 -- v is not the own one, and below it lie at least k numbers that are not
 abbrev Room : ℕ → ℕ → ℕ → Type 0
@@ -54,7 +54,8 @@ module _ {counts : List ℕ} {own : ℕ} {cs : List Condition} (lawful : LawfulC
       from zero e = omega arith
       from (suc k) e = last k e (room k (omega arith))
 
+pub action-conditions-few : {counts : List ℕ} {a : Action} → length counts ≤ 32 → LawfulAction counts a → length (a .conditions) ≤ 31
+action-conditions-few few a = omega (arith, fewer-than-variables (a .conditions) (a .has-pre .there))
+
 pub conditions-few : {s : Study} → Lawful s → (i : ℕ) → i < length (s .actions) → length (actionAt (s .actions) i .conditions) ≤ 31
-conditions-few lawful i h =
-    let a = lawful .action i h in
-    omega (arith, fewer-than-variables (a .conditions) (a .has-pre .there), lawful .few-variables)
+conditions-few lawful i h = action-conditions-few (lawful .few-variables) (lawful .action i h)

@@ -11,7 +11,7 @@ use lib.ListN.{length, getD}
 use borrow.Author.Tests.{ltb-true, leb-true, leb-false, eqb-true, eqb-false, not-false}
 use Rattle.plain.proofs.Tests.{picked, not-refused, not-missed}
 use Rattle.study.specs.Study.{Condition, Study, always, conditionAt}
-use Rattle.study.specs.Reading.{Record, variable, action, condition, task, seed, end, times, present, inRange, above, lastAction, fault}
+use Rattle.study.specs.Reading.{Record, variable, action, condition, task, seed, end, times, present, crew, Draft, inRange, above, lastAction, fault, faultIn}
 use Rattle.lawful.specs.Lawful.{Has}
 
 pub in-range-has : (s : Study) (v q : ℕ) → inRange s v q ≡ true → Has (s .counts) v q
@@ -37,6 +37,7 @@ Faultless s (seed n) = (1 ≤ n) × (n ≤ 2147483646)
 Faultless s end = Unit
 Faultless s (times n) = n ≢ always
 Faultless s (present n) = (n ≤ 7) × (n ≢ 0)
+Faultless s crew = Unit
 
 pub faultless : (s : Study) (r : Record) → fault s r ≡ 0 → Faultless s r
 unfolding fault
@@ -67,3 +68,28 @@ faultless s (present n) e =
     picked (λ (m : ℕ). m ≡ 0 → (n ≤ 7) × (n ≢ 0)) (leb n 7)
     (λ low m. (leb-true n 7 low, eqb-false n 0 (not-refused (eqb n 0) 5 _ m .0)))
     (λ _ m. absurd (omega arith)) e
+faultless s crew e = tt
+
+-- .. and where a ninth crew is a fault too
+abbrev pub FaultlessIn : Draft → Record → Type 0
+FaultlessIn d (variable n) = Faultless (d .study) (variable n)
+FaultlessIn d (action v p q) = Faultless (d .study) (action v p q)
+FaultlessIn d (condition v q) = Faultless (d .study) (condition v q)
+FaultlessIn d (task v p q) = Faultless (d .study) (task v p q)
+FaultlessIn d (seed n) = Faultless (d .study) (seed n)
+FaultlessIn d end = Faultless (d .study) end
+FaultlessIn d (times n) = Faultless (d .study) (times n)
+FaultlessIn d (present n) = Faultless (d .study) (present n)
+FaultlessIn d crew = length (d .crews) < 8
+
+pub faultless-in : (d : Draft) (r : Record) → faultIn d r ≡ 0 → FaultlessIn d r
+unfolding faultIn
+faultless-in d (variable n) e = faultless (d .study) (variable n) e
+faultless-in d (action v p q) e = faultless (d .study) (action v p q) e
+faultless-in d (condition v q) e = faultless (d .study) (condition v q) e
+faultless-in d (task v p q) e = faultless (d .study) (task v p q) e
+faultless-in d (seed n) e = faultless (d .study) (seed n) e
+faultless-in d end e = faultless (d .study) end e
+faultless-in d (times n) e = faultless (d .study) (times n) e
+faultless-in d (present n) e = faultless (d .study) (present n) e
+faultless-in d crew e = leb-false 8 (length (d .crews)) (not-refused (leb 8 (length (d .crews))) 3 _ e .0)

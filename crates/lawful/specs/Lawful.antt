@@ -1,4 +1,4 @@
--- Lawful studies: the limits of document 01 and the SAS demands on actions (values in range, pre differs from post, post-unique within the situation, conditions rising and on other variables), and document 02's that each variable is used.
+-- Lawful studies and rosters: the limits of document 01 and the SAS demands on actions (values in range, pre differs from post, post-unique within the situation, conditions rising and on other variables), and document 02's that each variable is used.
 -- Assumes nothing.
 use Prim.Native.Nat.{ℕ, suc, _≤_, _<_}
 use mathlib.Core.Path.{_≡_}
@@ -7,7 +7,7 @@ use mathlib.Core.Bool.{true}
 use mathlib.Core.List.{List}
 use lib.ListN.{length, getD}
 use Rattle.study.specs.Uses.{uses}
-use Rattle.study.specs.Study.{Condition, Action, Study, inForce, actionAt, taskAt, conditionAt}
+use Rattle.study.specs.Study.{Condition, Action, Crew, Roster, Study, inForce, actionAt, taskAt, crewAt, conditionAt}
 
 -- the variable is there, and the value is one of its values
 pub record Has (counts : List ℕ) (v q : ℕ) : Type 0 where
@@ -49,3 +49,26 @@ pub record Lawful (s : Study) : Type 0 where
   pub has-goal : (v : ℕ) → v < length (s .tasks) → Has (s .counts) v (taskAt (s .tasks) v .goal)
   pub seed-low : 1 ≤ s .seed
   pub seed-high : s .seed ≤ 2147483646
+
+-- a crew has a task for each variable, from one of its values to one, and a seed
+pub record LawfulCrew (counts : List ℕ) (k : Crew) : Type 0 where
+  pub a-task-each : length (k .tasks) ≡ length counts
+  pub has-start : (v : ℕ) → v < length (k .tasks) → Has counts v (taskAt (k .tasks) v .start)
+  pub has-goal : (v : ℕ) → v < length (k .tasks) → Has counts v (taskAt (k .tasks) v .goal)
+  pub seed-low : 1 ≤ k .seed
+  pub seed-high : k .seed ≤ 2147483646
+
+-- the study of each crew is lawful, and there are one to eight
+pub record LawfulRoster (r : Roster) : Type 0 where
+  pub situation : r .situation ≤ 7
+  pub some-variable : 1 ≤ length (r .counts)
+  pub few-variables : length (r .counts) ≤ 32
+  pub some-values : (v : ℕ) → v < length (r .counts) → 2 ≤ getD (r .counts) v 0
+  pub few-values : (v : ℕ) → v < length (r .counts) → getD (r .counts) v 0 ≤ 16
+  pub few-actions : length (r .actions) ≤ 256
+  pub action : (i : ℕ) → i < length (r .actions) → LawfulAction (r .counts) (actionAt (r .actions) i)
+  pub post-unique : PostUnique (r .situation) (r .actions)
+  pub used : (v : ℕ) → v < length (r .counts) → uses (r .actions) v ≡ true
+  pub some-crew : 1 ≤ length (r .crews)
+  pub few-crews : length (r .crews) ≤ 8
+  pub crew : (c : ℕ) → c < length (r .crews) → LawfulCrew (r .counts) (crewAt (r .crews) c)

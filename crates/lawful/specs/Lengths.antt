@@ -1,12 +1,12 @@
--- How many bytes a file has that says a study, where its actions stand, and how many bytes the longest has.
+-- How many bytes a file has that says a roster, where its actions stand, and how many bytes the longest has.
 -- Assumes nothing.
 use Prim.Native.Nat.{ℕ, _+_, _*_}
 use lib.Dec.{eqb}
 use mathlib.Core.List.{List, [], _∷_}
 use lib.ListN.{length}
 use Rattle.plain.specs.Choose.{pick}
-use Rattle.study.specs.Study.{Action, Study, always}
-use Rattle.study.specs.Reading.{Record, variable, action, condition, task, seed, end, times, present}
+use Rattle.study.specs.Study.{Action, Crew, Roster, always}
+use Rattle.study.specs.Reading.{Record, variable, action, condition, task, seed, end, times, present, crew}
 
 -- a record is its kind and its body
 abbrev pub bytesOf : Record → ℕ
@@ -18,6 +18,7 @@ bytesOf (seed n) = 5
 bytesOf end = 1
 bytesOf (times n) = 2
 bytesOf (present n) = 2
+bytesOf crew = 1
 
 -- a set of situations is written unless it has all eight, and the situation unless it is 0
 abbrev pub bytesOfTimes : ℕ → ℕ
@@ -36,10 +37,15 @@ unfoldable pub placesFrom : ℕ → List Action → List ℕ
 placesFrom at [] = []
 placesFrom at (a ∷ rest) = at ∷ placesFrom (at + 4 + 3 * length (a .conditions) + bytesOfTimes (a .situations)) rest
 
--- the whole file: the situation, variables, actions, tasks, the seed and the end
-unfoldable pub fileLength : Study → ℕ
-fileLength s = bytesOfPresent (s .situation) + 2 * length (s .counts) + bytesOfActions (s .actions) + 4 * length (s .tasks) + 5 + 1
+-- crews: the tasks and the seed of each, and behind them the opening of the next crew, or the end
+unfoldable pub bytesOfCrews : List Crew → ℕ
+bytesOfCrews [] = 0
+bytesOfCrews (k ∷ rest) = 4 * length (k .tasks) + 5 + 1 + bytesOfCrews rest
 
--- the situation, 32 variables, 256 actions with 31 conditions and their situations each, 32 tasks, the seed and the end: 25,544 bytes
+-- the whole file: the situation, variables, actions and crews
+unfoldable pub fileLength : Roster → ℕ
+fileLength r = bytesOfPresent (r .situation) + 2 * length (r .counts) + bytesOfActions (r .actions) + bytesOfCrews (r .crews)
+
+-- the situation, 32 variables, 256 actions with 31 conditions and their situations each, eight crews with 32 tasks and a seed each, the openings and the end: 26,482 bytes
 abbrev pub longestFile : ℕ
-longestFile = 2 + 2 * 32 + 256 * (4 + 3 * 31 + 2) + 4 * 32 + 5 + 1
+longestFile = 2 + 2 * 32 + 256 * (4 + 3 * 31 + 2) + 8 * (4 * 32 + 5 + 1)

@@ -4,19 +4,20 @@ use mathlib.Core.Path.{_≡_, refl}
 use mathlib.Core.List.{List}
 use Prim.Native.Nat.{ℕ}
 use native.Mathlib.Omega.{arith}
+use lib.ListN.{length}
 use Rattle.study.specs.Reading.{refused, blank, reading}
 use Rattle.entering.specs.declared.Progress.{Progress}
 use Rattle.entering.specs.declared.Step.the-variants.{On, Refused, Done}
-use Rattle.tables.specs.declared.Loaded.the-variants as Said-of
-use Rattle.tables.specs.Tables.{Tables, Sized, Loads}
+use Rattle.tables.specs.declared.Read.the-variants as Read-of
+use Rattle.tables.specs.Tables.{Tables, Sized, Reads}
 use Rattle.pacing.specs.Reads.{Safe, origin}
 use Rattle.loader.specs.Halfway.{Halfway}
 use Rattle.pacing.proofs.Arms.{Answers}
 use Rattle.pacing.proofs.Reached.{begun, settles, goes-further}
 use Rattle.pacing.proofs.Start.{nothing-known}
 
-pub begins : (file : List ℕ) {t : Tables} → Sized t → Halfway file t origin
-begins file sized =
+pub begins : (file : List ℕ) {t : Tables} {crews : List ℕ} → Sized t → length crews ≡ 8 → Halfway file t crews origin
+begins file sized eight =
     record {
       draft = blank;
       reached = begun file;
@@ -28,23 +29,26 @@ begins file sized =
             no-actions = λ h. refl;
             placed = refl;
             places = λ i h. absurd (omega arith);
-            tasks = record { count = refl; start = λ v h. absurd (omega arith); goal = λ v h. absurd (omega arith) };
-            all-tasks = λ h. absurd (omega arith);
-            seed = refl;
+            no-tasks = λ h. refl;
+            tasks = λ h. record { count = refl; room = omega arith; start = λ v h. absurd (omega arith); goal = λ v h. absurd (omega arith) };
+            no-crews = λ h. refl;
+            crews = record { long = eight; count-is = refl; few = omega arith; crew = λ c h. absurd (omega arith) };
             next-condition = λ h k. absurd (omega arith);
             counted = λ h k. absurd (omega arith);
             still-in = λ h k. absurd (omega arith);
           };
     }
 
-module _ {file : List ℕ} {t : Tables} {p : Progress} (safe : Safe file p (t .counts)) (h : Halfway file t p) where
-  pub goes-on : {t′ : Tables} {p′ : Progress} → Answers file p t t′ (On p′) → Halfway file t′ p′
+module _ {file : List ℕ} {t : Tables} {crews : List ℕ} {p : Progress} (safe : Safe file p (t .counts)) (h : Halfway file t crews p) where
+  pub goes-on : {t′ : Tables} {crews′ : List ℕ} {p′ : Progress} → Answers file p t crews t′ crews′ (On p′) → Halfway file t′ crews′ p′
   goes-on a =
       let k = a .1 (h .draft) (h .stands) in
       record { draft = k .0; reached = goes-further (h .reached) (safe .inside) (k .1) (a .0 .0); stands = k .2 }
 
-  pub refuses : {n place : ℕ} → Answers file p t t (Refused n place) → reading file ≡ refused n place
+  pub refuses : {n place : ℕ} → Answers file p t crews t crews (Refused n place) → reading file ≡ refused n place
   refuses a = settles (h .reached) (safe .inside) (a .1 (h .draft) (h .stands))
 
-  pub ends : (t′ : Tables) (p′ : Progress) → Answers file p t t′ (Done p′) → Loads file t′ (Said-of.Study (p′ .vars) (p′ .actions) (p′ .seed))
-  ends t′ p′ a = let k = a .1 (h .draft) (h .stands) in (k .0, settles (h .reached) (safe .inside) (k .1), k .2)
+  pub ends :
+      (t′ : Tables) (crews′ : List ℕ) (p′ : Progress) → Answers file p t crews t′ crews′ (Done p′)
+      → Reads file t′ crews′ (Read-of.Roster (p′ .vars) (p′ .actions) (p′ .crews))
+  ends t′ crews′ p′ a = let k = a .1 (h .draft) (h .stands) in (k .0, settles (h .reached) (safe .inside) (k .1), k .2)

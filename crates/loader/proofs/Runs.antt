@@ -26,9 +26,9 @@ use Rattle.loader.proofs.Pass.{goes-on}
 abbrev pub Entered : ActionTables → Progress → ActionTables
 Entered acts p = withMany acts (p .actions - 1) (p .many)
 
-module _ {file : List ℕ} {p : Progress} {counts : List ℕ} (low : 2 ≤ p .last) (high : p .last ≤ 3) (acts : ActionTables) {starts goals : List ℕ} where
+module _ {file : List ℕ} {p : Progress} {counts : List ℕ} (low : 2 ≤ p .last) (high : p .last ≤ 3) (acts : ActionTables) {starts goals begins : List ℕ} where
   -- before the first condition of a run it is entered already
-  pub many-entered : Safe file p counts → Halfway file (tables counts acts starts goals) p → Halfway file (tables counts (Entered acts p) starts goals) p
+  pub many-entered : Safe file p counts → Halfway file (tables counts acts starts goals) begins p → Halfway file (tables counts (Entered acts p) starts goals) begins p
   many-entered safe h =
       let small : p .many % 64 ≡ p .many = omega (arith, safe .bounds .fewer, safe .bounds .low) in
       let in-force : p .many / 64 ≡ 0 = omega (arith, safe .bounds .fewer, safe .bounds .low) in
@@ -43,14 +43,14 @@ module _ {file : List ℕ} {p : Progress} {counts : List ℕ} (low : 2 ≤ p .la
       → recordAt file (p .at) ≡ There 3 (p .at + 1) (p .at + 1 + 2)
       → (v q : ℕ) → v ≡ getD file (p .at + 1) 0 → q ≡ getD file (p .at + 2) 0
       → conditionFault counts (p .vars) (p .own) (p .above) v q ≡ 0
-      → Halfway file (tables counts (Entered acts p) starts goals) p
-      → Halfway file (tables counts (Entered acts (afterCondition p v (p .at + 3))) starts goals) (afterCondition p v (p .at + 3))
+      → Halfway file (tables counts (Entered acts p) starts goals) begins p
+      → Halfway file (tables counts (Entered acts (afterCondition p v (p .at + 3))) starts goals) begins (afterCondition p v (p .at + 3))
   condition-taken safe there v q ev eq good h =
       let next : p .at + 1 + 2 ≡ p .at + 3 = omega arith in
       let second : p .at + 1 + 1 ≡ p .at + 2 = omega arith in
       goes-on safe h
       (rw (set-set (acts .manys), set-set (acts .outs)) at
-      (condition-arm file p (p .at + 1) (p .at + 3) (tables counts (Entered acts p) starts goals) safe
+      (condition-arm file p (p .at + 1) (p .at + 3) (tables counts (Entered acts p) starts goals) begins safe
       (rw next at there) (may-condition _ low high) v q ev (rw second eq) 0 (sym good)))
 
   -- the situations after a run, entered with the number of its conditions
@@ -59,30 +59,30 @@ module _ {file : List ℕ} {p : Progress} {counts : List ℕ} (low : 2 ≤ p .la
       → recordAt file (p .at) ≡ There 7 (p .at + 1) (p .at + 1 + 1)
       → (n : ℕ) → n ≡ getD file (p .at + 1) 0
       → eqb (timesFault n) 0 ≡ true
-      → Halfway file (tables counts (Entered acts p) starts goals) p
-      → Halfway file (tables counts (storedMany (timesFault n) acts (p .actions - 1) (p .many + outBy n (p .situation))) starts goals) (afterTimes p (p .at + 2))
+      → Halfway file (tables counts (Entered acts p) starts goals) begins p
+      → Halfway file (tables counts (storedMany (timesFault n) acts (p .actions - 1) (p .many + outBy n (p .situation))) starts goals) begins (afterTimes p (p .at + 2))
   times-taken safe there n en good h =
       let next : p .at + 1 + 1 ≡ p .at + 2 = omega arith in
       rw good
       (goes-on safe h
       (rw (good, set-set (acts .manys), set-set (acts .outs)) at
-      (times-arm file p (p .at + 1) (p .at + 2) (tables counts (Entered acts p) starts goals) safe (rw next at there) (may-times _ low high) n en)))
+      (times-arm file p (p .at + 1) (p .at + 2) (tables counts (Entered acts p) starts goals) begins safe (rw next at there) (may-times _ low high) n en)))
 
 -- an action that may follow, without fault
 pub action-taken :
-    (file : List ℕ) (p : Progress) (t : Tables)
+    (file : List ℕ) (p : Progress) (t : Tables) (begins : List ℕ)
     → Safe file p (t .counts)
     → mayFollow (ltb (p .tasks) (p .vars)) (p .last) 2 ≡ true
     → recordAt file (p .at) ≡ There 2 (p .at + 1) (p .at + 1 + 3)
     → (v x y : ℕ) → v ≡ getD file (p .at + 1) 0 → x ≡ getD file (p .at + 2) 0 → y ≡ getD file (p .at + 3) 0
     → (f : ℕ) → f ≡ actionFault (t .counts) (p .vars) (p .actions) v x y
     → eqb f 0 ≡ true
-    → Answers file p t (tables (t .counts) (storedAction f (p .actions) v x y (p .at + 4) (t .acts)) (t .starts) (t .goals)) (On (afterAction p v (p .at + 4)))
-action-taken file p t safe may there v x y ev ex ey f ef good =
+    → Answers file p t begins (tables (t .counts) (storedAction f (p .actions) v x y (p .at + 4) (t .acts)) (t .starts) (t .goals)) begins (On (afterAction p v (p .at + 4)))
+action-taken file p t begins safe may there v x y ev ex ey f ef good =
     let next : p .at + 1 + 3 ≡ p .at + 4 = omega arith in
     let second : p .at + 1 + 1 ≡ p .at + 2 = omega arith in
     let third : p .at + 1 + 2 ≡ p .at + 3 = omega arith in
-    rw good (rw good at (action-arm file p (p .at + 1) (p .at + 4) t safe (rw next at there) may v x y ev (rw second ex) (rw third ey) f ef))
+    rw good (rw good at (action-arm file p (p .at + 1) (p .at + 4) t begins safe (rw next at there) may v x y ev (rw second ex) (rw third ey) f ef))
 
 may-variable : (left : Bool) {last : ℕ} → last ≡ 1 → mayFollow left last 1 ≡ true
 unfolding mayFollow
@@ -94,20 +94,20 @@ may-task e l = rw (e, l) refl
 
 -- a variable after a variable, without fault
 pub variable-taken :
-    (file : List ℕ) (p : Progress) (t : Tables)
+    (file : List ℕ) (p : Progress) (t : Tables) (begins : List ℕ)
     → Safe file p (t .counts)
     → p .last ≡ 1
     → recordAt file (p .at) ≡ There 1 (p .at + 1) (p .at + 1 + 1)
     → (n : ℕ) → n ≡ getD file (p .at + 1) 0
     → eqb (variableFault (p .vars) n) 0 ≡ true
-    → Answers file p t (tables (stored (variableFault (p .vars) n) (t .counts) (p .vars) n) (t .acts) (t .starts) (t .goals)) (On (afterVariable p (p .at + 2)))
-variable-taken file p t safe last there n en good =
+    → Answers file p t begins (tables (stored (variableFault (p .vars) n) (t .counts) (p .vars) n) (t .acts) (t .starts) (t .goals)) begins (On (afterVariable p (p .at + 2)))
+variable-taken file p t begins safe last there n en good =
     let next : p .at + 1 + 1 ≡ p .at + 2 = omega arith in
-    rw good (rw good at (variable-arm file p (p .at + 1) (p .at + 2) t safe (rw next at there) (may-variable _ last) n en))
+    rw good (rw good at (variable-arm file p (p .at + 1) (p .at + 2) t begins safe (rw next at there) (may-variable _ last) n en))
 
 -- a task after a task, without fault, where a variable is left
 pub task-taken :
-    (file : List ℕ) (p : Progress) (t : Tables)
+    (file : List ℕ) (p : Progress) (t : Tables) (begins : List ℕ)
     → Safe file p (t .counts)
     → p .last ≡ 4
     → p .tasks < p .vars
@@ -115,11 +115,10 @@ pub task-taken :
     → (v x y : ℕ) → v ≡ getD file (p .at + 1) 0 → x ≡ getD file (p .at + 2) 0 → y ≡ getD file (p .at + 3) 0
     → (f : ℕ) → f ≡ taskFault (t .counts) (p .vars) (p .tasks) v x y
     → eqb f 0 ≡ true
-    → Answers file p t (tables (t .counts) (t .acts) (stored f (t .starts) v x) (stored f (t .goals) v y)) (On (afterTask p (p .at + 4)))
-task-taken file p t safe last left there v x y ev ex ey f ef good =
+    → Answers file p t begins t begins (On (afterTask p (p .at + 4)))
+task-taken file p t begins safe last left there v x y ev ex ey f ef good =
     let next : p .at + 1 + 3 ≡ p .at + 4 = omega arith in
     let second : p .at + 1 + 1 ≡ p .at + 2 = omega arith in
     let third : p .at + 1 + 2 ≡ p .at + 3 = omega arith in
-    rw good
-    (rw good at
-    (task-arm file p (p .at + 1) (p .at + 4) t safe (rw next at there) (may-task last (lt-ltb (p .tasks) (p .vars) left)) v x y ev (rw second ex) (rw third ey) f ef))
+    rw good at
+    (task-arm file p (p .at + 1) (p .at + 4) t begins safe (rw next at there) (may-task last (lt-ltb (p .tasks) (p .vars) left)) v x y ev (rw second ex) (rw third ey) f ef)

@@ -8,11 +8,11 @@ use Rattle.tables.specs.Rows.{Row, countColumn, startColumn, goalColumn}
 use Rattle.entering.specs.declared.Progress.{Progress}
 use Rattle.pacing.specs.Reads.{Stands, Reached}
 
--- the draft that the tables hold at a place
-pub record Halfway (file : List ℕ) (t : Tables) (p : Progress) : Type 0 where
+-- the draft that the tables, with where each crew begins, hold at a place
+pub record Halfway (file : List ℕ) (t : Tables) (begins : List ℕ) (p : Progress) : Type 0 where
   pub draft : Draft
   pub reached : Reached file (p .at) draft
-  pub stands : Stands file p t draft
+  pub stands : Stands file p t begins draft
 
 -- the rows of the variables, beside any tables of actions
 abbrev pub beside : List Row → ActionTables → Tables

@@ -5,14 +5,15 @@ ghost use Prim.Native.Nat.{ℕ, _-_, _≤_};
 ghost use mathlib.Core.List.{List};
 ghost use lib.Dec.{ltb};
 ghost use Rattle.study.specs.Reading.{mayFollow};
-ghost use Rattle.tables.specs.Tables.{ActionTables, tables, Sized, Loads};
+ghost use lib.ListN.{length};
+ghost use Rattle.tables.specs.Tables.{ActionTables, tables, Sized, Reads};
 ghost use Rattle.entering.specs.Steps.{withMany};
 ghost use Rattle.tables.specs.Rows.{countColumn, seenAll};
 ghost use Rattle.pacing.specs.Reads.{Safe};
 ghost use Rattle.loader.specs.Halfway.{Halfway, beside};
 use entering::Progress;
 use entering::Step;
-use tables::Loaded;
+use tables::Read;
 
 const VARIABLE: u8 = 1;
 
@@ -31,9 +32,9 @@ fn conditions(file: &[u8], begin: Progress, rows: &[[u8; 3]; 32]) -> Progress
     requires { ⌜ (2 ≤ begin .last) × (begin .last ≤ 3) ⌝ }
     ensures { λ r. ⌜ Safe (now (file .entry)) r (countColumn (now (rows .entry))) ⌝ }
     ensures { λ r. ⌜ (2 ≤ r .last) × (r .last ≤ 3) × (begin .at ≤ r .at) ⌝ }
-    ensures { λ r. ⌜ ((acts : ActionTables) (starts goals : List ℕ)
-        → Halfway (now (file .entry)) (tables (countColumn (now (rows .entry))) acts starts goals) begin
-        → Halfway (now (file .entry)) (tables (countColumn (now (rows .entry))) (withMany acts (r .actions - 1) (r .many)) starts goals) r) ⌝ }
+    ensures { λ r. ⌜ ((acts : ActionTables) (starts goals begins : List ℕ)
+        → Halfway (now (file .entry)) (tables (countColumn (now (rows .entry))) acts starts goals) begins begin
+        → Halfway (now (file .entry)) (tables (countColumn (now (rows .entry))) (withMany acts (r .actions - 1) (r .many)) starts goals) begins r) ⌝ }
 {
     let mut p = begin;
     loop {
@@ -55,7 +56,7 @@ fn conditions(file: &[u8], begin: Progress, rows: &[[u8; 3]; 32]) -> Progress
             own: p.own,
             above: v + 1,
             many: p.many + 1,
-            seed: p.seed,
+            crews: p.crews,
             used: bits::mark(p.used, v),
         };
         p = next;
@@ -72,9 +73,9 @@ fn whole_action(
     requires { ⌜ Safe (now file) p (countColumn (now rows)) × (p .last ≡ 2) ⌝ }
     ensures { λ r. ⌜ Safe (now (file .entry)) r (countColumn (now (rows .entry))) × (p .at ≤ r .at) ⌝ }
     ensures { λ r. ⌜ mayFollow (ltb (r .tasks) (r .vars)) (r .last) 2 ≡ true ⌝ }
-    ensures { λ r. ⌜ ((setters : List ℕ)
-        → Halfway (now (file .entry)) (seenAll (now (acts .entry)) (now (rows .entry)) setters) p
-        → Halfway (now (file .entry)) (seenAll (now (acts .exit)) (now (rows .entry)) setters) r) ⌝ }
+    ensures { λ r. ⌜ ((setters begins : List ℕ)
+        → Halfway (now (file .entry)) (seenAll (now (acts .entry)) (now (rows .entry)) setters) begins p
+        → Halfway (now (file .entry)) (seenAll (now (acts .exit)) (now (rows .entry)) setters) begins r) ⌝ }
 {
     let run = conditions(file, p, rows);
     let at = run.at;
@@ -98,9 +99,9 @@ fn actions(
 ) -> Progress
     requires { ⌜ Safe (now file) begin (countColumn (now rows)) ⌝ }
     ensures { λ r. ⌜ Safe (now (file .entry)) r (countColumn (now (rows .entry))) × (begin .at ≤ r .at) ⌝ }
-    ensures { λ r. ⌜ ((setters : List ℕ)
-        → Halfway (now (file .entry)) (seenAll (now (acts .entry)) (now (rows .entry)) setters) begin
-        → Halfway (now (file .entry)) (seenAll (now (acts .exit)) (now (rows .entry)) setters) r) ⌝ }
+    ensures { λ r. ⌜ ((setters begins : List ℕ)
+        → Halfway (now (file .entry)) (seenAll (now (acts .entry)) (now (rows .entry)) setters) begins begin
+        → Halfway (now (file .entry)) (seenAll (now (acts .exit)) (now (rows .entry)) setters) begins r) ⌝ }
 {
     if begin.last != ACTION {
         return begin;
@@ -132,9 +133,9 @@ fn actions(
 fn variables(file: &[u8], begin: Progress, rows: &mut [[u8; 3]; 32]) -> Progress
     requires { ⌜ Safe (now file) begin (countColumn (now rows)) ⌝ }
     ensures { λ r. ⌜ Safe (now (file .entry)) r (countColumn (now (rows .exit))) × (begin .at ≤ r .at) ⌝ }
-    ensures { λ r. ⌜ ((acts : ActionTables)
-        → Halfway (now (file .entry)) (beside (now (rows .entry)) acts) begin
-        → Halfway (now (file .entry)) (beside (now (rows .exit)) acts) r) ⌝ }
+    ensures { λ r. ⌜ ((acts : ActionTables) (begins : List ℕ)
+        → Halfway (now (file .entry)) (beside (now (rows .entry)) acts) begins begin
+        → Halfway (now (file .entry)) (beside (now (rows .exit)) acts) begins r) ⌝ }
 {
     if begin.last != VARIABLE {
         return begin;
@@ -155,12 +156,12 @@ fn variables(file: &[u8], begin: Progress, rows: &mut [[u8; 3]; 32]) -> Progress
 
 // After a task, tasks that have no fault one after another, while a variable is left. Whatever comes then is left to the
 // general step.
-fn tasks(file: &[u8], begin: Progress, rows: &mut [[u8; 3]; 32]) -> Progress
+fn tasks(file: &[u8], begin: Progress, rows: &[[u8; 3]; 32]) -> Progress
     requires { ⌜ Safe (now file) begin (countColumn (now rows)) ⌝ }
-    ensures { λ r. ⌜ Safe (now (file .entry)) r (countColumn (now (rows .exit))) × (begin .at ≤ r .at) ⌝ }
-    ensures { λ r. ⌜ ((acts : ActionTables)
-        → Halfway (now (file .entry)) (beside (now (rows .entry)) acts) begin
-        → Halfway (now (file .entry)) (beside (now (rows .exit)) acts) r) ⌝ }
+    ensures { λ r. ⌜ Safe (now (file .entry)) r (countColumn (now (rows .entry))) × (begin .at ≤ r .at) ⌝ }
+    ensures { λ r. ⌜ ((acts : ActionTables) (starts goals begins : List ℕ)
+        → Halfway (now (file .entry)) (tables (countColumn (now (rows .entry))) acts starts goals) begins begin
+        → Halfway (now (file .entry)) (tables (countColumn (now (rows .entry))) acts starts goals) begins r) ⌝ }
 {
     if begin.last != TASK {
         return begin;
@@ -182,16 +183,19 @@ fn tasks(file: &[u8], begin: Progress, rows: &mut [[u8; 3]; 32]) -> Progress
     }
 }
 
-// Fills the tables by one pass over the file. They may hold anything before: no entry is believed that was not written.
-// `Sized` says of the tables what their types say; a function is not told the length of an array that it is lent.
+// Fills the tables by one pass over the file, and where the tasks of each crew begin. They may hold anything before: no entry
+// is believed that was not written. `Sized` and `eight` say of the tables what their types say; a function is not told the
+// length of an array that it is lent.
 pub fn load(
     file: &[u8],
     acts: &mut [[u8; 6]; 256],
     vars: &mut [[u8; 3]; 32],
     setters: &mut [u8; 512],
-) -> Loaded
+    crews: &mut [u16; 8],
+) -> Read
     ensures { λ r. ⌜ (Sized (seenAll (now (acts .entry)) (now (vars .entry)) (now (setters .entry)))
-        → Loads (now (file .entry)) (seenAll (now (acts .exit)) (now (vars .exit)) (now (setters .exit))) r) ⌝ }
+        → length (now (crews .entry)) ≡ 8
+        → Reads (now (file .entry)) (seenAll (now (acts .exit)) (now (vars .exit)) (now (setters .exit))) (now (crews .exit)) r) ⌝ }
 {
     let mut p = Progress {
         at: 0,
@@ -203,11 +207,11 @@ pub fn load(
         own: 0,
         above: 0,
         many: 0,
-        seed: 0,
+        crews: 0,
         used: 0,
     };
     loop {
-        let taken = pacing::step(file, p, acts, vars, setters);
+        let taken = pacing::step(file, p, acts, vars, setters, crews);
         match taken {
             Step::On(next) => {
                 let read = variables(file, next, vars);
@@ -215,13 +219,13 @@ pub fn load(
                 p = tasks(file, acted, vars);
             }
             Step::Refused { number, place } => {
-                return Loaded::Refused { number, place };
+                return Read::Refused { number, place };
             }
             Step::Done(end) => {
-                return Loaded::Study {
+                return Read::Roster {
                     vars: end.vars,
                     actions: end.actions,
-                    seed: end.seed,
+                    crews: end.crews,
                 };
             }
         }

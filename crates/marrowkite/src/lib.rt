@@ -62,24 +62,24 @@ pub extern "C" fn marrowkite_check(file: &[u8]) -> Answer
 }
 
 #[no_mangle]
-pub extern "C" fn marrowkite_plan(file: &[u8], ranks: &[u8], plan: &mut [u8]) -> Answer
-    ensures { λ r. ⌜ PlanAllows (now (file .entry)) (now (ranks .entry)) (now (plan .entry)) r (now (plan .exit)) ⌝ }
+pub extern "C" fn marrowkite_plan(file: &[u8], crew: u64, ranks: &[u8], plan: &mut [u8]) -> Answer
+    ensures { λ r. ⌜ PlanAllows (now (file .entry)) crew (now (ranks .entry)) (now (plan .entry)) r (now (plan .exit)) ⌝ }
 {
-    planner::plan(file, ranks, plan)
+    planner::plan(file, crew, ranks, plan)
 }
 
 #[no_mangle]
-pub extern "C" fn marrowkite_plan_seeded(file: &[u8], plan: &mut [u8]) -> Answer
-    ensures { λ r. ⌜ SeededAllows (now (file .entry)) (now (plan .entry)) r (now (plan .exit)) ⌝ }
+pub extern "C" fn marrowkite_plan_seeded(file: &[u8], crew: u64, plan: &mut [u8]) -> Answer
+    ensures { λ r. ⌜ SeededAllows (now (file .entry)) crew (now (plan .entry)) r (now (plan .exit)) ⌝ }
 {
-    planner::plan_seeded(file, plan)
+    planner::plan_seeded(file, crew, plan)
 }
 
 #[no_mangle]
-pub extern "C" fn marrowkite_run(file: &[u8], plan: &[u8], state: &mut [u8]) -> Answer
-    ensures { λ r. ⌜ RunAllows (now (file .entry)) (now (plan .entry)) (now (state .entry)) r (now (state .exit)) ⌝ }
+pub extern "C" fn marrowkite_run(file: &[u8], crew: u64, plan: &[u8], state: &mut [u8]) -> Answer
+    ensures { λ r. ⌜ RunAllows (now (file .entry)) crew (now (plan .entry)) (now (state .entry)) r (now (state .exit)) ⌝ }
 {
-    running::run(file, plan, state)
+    running::run(file, crew, plan, state)
 }
 
 #[no_mangle]
@@ -95,26 +95,40 @@ pub extern "C" fn marrowkite_write(
     variables: &[u8],
     actions: &[u8],
     conditions: &[u8],
+    crews: &[u8],
     tasks: &[u8],
-    seed: u32,
     file: &mut [u8],
 ) -> Answer
-    ensures { λ r. ⌜ WriteAllows situation (now (variables .entry)) (now (actions .entry)) (now (conditions .entry)) (now (tasks .entry)) seed
+    ensures { λ r. ⌜ WriteAllows situation (now (variables .entry)) (now (actions .entry)) (now (conditions .entry)) (now (crews .entry)) (now (tasks .entry))
         (now (file .entry)) r (now (file .exit)) ⌝ }
 {
-    writer::write(situation, variables, actions, conditions, tasks, seed, file)
+    writer::write(
+        situation,
+        variables,
+        actions,
+        conditions,
+        crews,
+        tasks,
+        file,
+    )
 }
 
 #[no_mangle]
-pub extern "C" fn marrowkite_report(file: &[u8], first: u64, n: u64, report: &mut [u8]) -> Answer
-    ensures { λ r. ⌜ ReportAllows (now (file .entry)) first n (now (report .entry)) r (now (report .exit)) ⌝ }
+pub extern "C" fn marrowkite_report(
+    file: &[u8],
+    crew: u64,
+    first: u64,
+    n: u64,
+    report: &mut [u8],
+) -> Answer
+    ensures { λ r. ⌜ ReportAllows (now (file .entry)) crew first n (now (report .entry)) r (now (report .exit)) ⌝ }
 {
-    reporter::report(file, first, n, report)
+    reporter::report(file, crew, first, n, report)
 }
 
 #[no_mangle]
-pub extern "C" fn marrowkite_chart(file: &[u8], actions: &[u8], pairs: &[u8]) -> Answer
-    ensures { λ r. ⌜ ChartAllows (now (file .entry)) (now (actions .entry)) (now (pairs .entry)) r ⌝ }
+pub extern "C" fn marrowkite_chart(file: &[u8], crew: u64, actions: &[u8], pairs: &[u8]) -> Answer
+    ensures { λ r. ⌜ ChartAllows (now (file .entry)) crew (now (actions .entry)) (now (pairs .entry)) r ⌝ }
 {
-    charter::chart(file, actions, pairs)
+    charter::chart(file, crew, actions, pairs)
 }

@@ -12,13 +12,13 @@ use borrow.Author.Tests.{le-leb}
 use Rattle.bits.specs.Bits.{bit, marked}
 use Rattle.bits.proofs.Words.{bit-marked}
 use Rattle.study.specs.Study.{Action, noAction, always}
-use Rattle.study.specs.Reading.{Draft, fault, with, drafted, variable, action, condition, task, seed, times, present, above, lastAction, withCondition, within}
+use Rattle.study.specs.Reading.{Draft, faultIn, with, drafted, variable, action, condition, task, seed, times, present, crew, manned, above, lastAction, withCondition, within}
 use Rattle.study.specs.Uses.{uses}
 use Rattle.study.proofs.Uses.{uses-with-action, uses-with-condition, uses-with-times}
 use Rattle.plain.proofs.Lists.{length-more}
-use Rattle.lawful.proofs.Faults.{faultless}
+use Rattle.lawful.proofs.Faults.{faultless-in}
 use Rattle.entering.specs.declared.Progress.{Progress}
-use Rattle.entering.specs.Steps.{afterVariable, afterAction, afterCondition, afterTask, afterSeed, afterTimes, afterPresent}
+use Rattle.entering.specs.Steps.{afterVariable, afterAction, afterCondition, afterTask, afterSeed, afterTimes, afterPresent, afterCrew}
 use Rattle.pacing.specs.Reads.{Knows}
 use Rattle.pacing.proofs.Grows.{each-entered, table-more, last-more, last-set}
 use Rattle.pacing.proofs.OneCondition.{above-more}
@@ -26,11 +26,11 @@ use Rattle.pacing.proofs.OneCondition.{above-more}
 module _ {p : Progress} {counts : List ℕ} {d : Draft} (knows : Knows p counts d) (next : ℕ) where
   pub variable-known :
       (n : ℕ)
-      → fault (d .study) (variable n) ≡ 0
+      → faultIn d (variable n) ≡ 0
       → length counts ≡ 32
       → Knows (afterVariable p next) (set counts (p .vars) n) (drafted d (p .at) 1 (variable n))
-  unfolding with
-  variable-known n good wide = let (few, low, high) = faultless (d .study) (variable n) good in record {
+  unfolding with manned
+  variable-known n good wide = let (few, low, high) = faultless-in d (variable n) good in record {
     situation = knows .situation;
     counts = record {
       count = omega (arith, length-more (d .study .counts) n);
@@ -44,6 +44,7 @@ module _ {p : Progress} {counts : List ℕ} {d : Draft} (knows : Knows p counts 
     own = knows .own;
     above = knows .above;
     used = knows .used;
+    crews = knows .crews;
   }
 
   -- a variable put into the set, and used besides
@@ -52,7 +53,7 @@ module _ {p : Progress} {counts : List ℕ} {d : Draft} (knows : Knows p counts 
   one-more-used v z is = bit-marked (p .used) v z ∙ rw (knows .used z) (sym is)
 
   pub action-known : (v x y : ℕ) → Knows (afterAction p v next) counts (drafted d (p .at) 2 (action v x y))
-  unfolding with above
+  unfolding with manned above
   action-known v x y =
       record {
         situation = knows .situation;
@@ -63,6 +64,7 @@ module _ {p : Progress} {counts : List ℕ} {d : Draft} (knows : Knows p counts 
         own = sym (ap (λ a. a .var) last);
         above = λ z. rw (last, le-leb 0 z (omega arith));
         used = λ z. one-more-used v z (uses-with-action (d .study) v x y z);
+        crews = knows .crews;
       }
     where
       new : Action
@@ -75,7 +77,7 @@ module _ {p : Progress} {counts : List ℕ} {d : Draft} (knows : Knows p counts 
       (v q : ℕ)
       → 1 ≤ p .actions
       → Knows (afterCondition p v next) counts (drafted d (p .at) 3 (condition v q))
-  unfolding with
+  unfolding with manned
   condition-known v q some = record {
     situation = knows .situation;
     counts = knows .counts;
@@ -85,13 +87,14 @@ module _ {p : Progress} {counts : List ℕ} {d : Draft} (knows : Knows p counts 
     own = knows .own ∙ sym (ap (λ a. a .var) last);
     above = λ z. rw (last, above-more (lastAction (d .study) .conditions) (record { var = v; value = q }) z, add-one);
     used = λ z. one-more-used v z (uses-with-condition (d .study) (omega arith) v q z);
+    crews = knows .crews;
   }
     where
       last : lastAction (with (d .study) (condition v q)) ≡ withCondition (lastAction (d .study)) v q
       last = last-set (d .study .actions) (withCondition (lastAction (d .study)) v q) noAction (omega arith)
 
   pub times-known : (n : ℕ) → 1 ≤ p .actions → Knows (afterTimes p next) counts (drafted d (p .at) 7 (times n))
-  unfolding with
+  unfolding with manned
   times-known n some = record {
     situation = knows .situation;
     counts = knows .counts;
@@ -101,13 +104,14 @@ module _ {p : Progress} {counts : List ℕ} {d : Draft} (knows : Knows p counts 
     own = knows .own ∙ sym (ap (λ a. a .var) last);
     above = λ z. rw last (knows .above z);
     used = λ z. knows .used z ∙ sym (uses-with-times (d .study) (omega arith) n z);
+    crews = knows .crews;
   }
     where
       last : lastAction (with (d .study) (times n)) ≡ within (lastAction (d .study)) n
       last = last-set (d .study .actions) (within (lastAction (d .study)) n) noAction (omega arith)
 
   pub task-known : (v x y : ℕ) → Knows (afterTask p next) counts (drafted d (p .at) 4 (task v x y))
-  unfolding with
+  unfolding with manned
   task-known v x y = record {
     situation = knows .situation;
     counts = knows .counts;
@@ -117,10 +121,11 @@ module _ {p : Progress} {counts : List ℕ} {d : Draft} (knows : Knows p counts 
     own = knows .own;
     above = knows .above;
     used = knows .used;
+    crews = knows .crews;
   }
 
-  pub seed-known : (n : ℕ) → Knows (afterSeed p n next) counts (drafted d (p .at) 5 (seed n))
-  unfolding with
+  pub seed-known : (n : ℕ) → Knows (afterSeed p next) counts (drafted d (p .at) 5 (seed n))
+  unfolding with manned
   seed-known n = record {
     situation = knows .situation;
     counts = knows .counts;
@@ -130,10 +135,11 @@ module _ {p : Progress} {counts : List ℕ} {d : Draft} (knows : Knows p counts 
     own = knows .own;
     above = knows .above;
     used = knows .used;
+    crews = omega (arith, length-more (d .crews) (record { tasks = d .study .tasks; seed = n }), knows .crews);
   }
 
   pub present-known : (n : ℕ) → Knows (afterPresent p n next) counts (drafted d (p .at) 8 (present n))
-  unfolding with
+  unfolding with manned
   present-known n = record {
     situation = refl;
     counts = knows .counts;
@@ -143,4 +149,19 @@ module _ {p : Progress} {counts : List ℕ} {d : Draft} (knows : Knows p counts 
     own = knows .own;
     above = knows .above;
     used = knows .used;
+    crews = knows .crews;
+  }
+
+  pub crew-known : Knows (afterCrew p next) counts (drafted d (p .at) 9 crew)
+  unfolding with manned
+  crew-known = record {
+    situation = knows .situation;
+    counts = knows .counts;
+    actions = knows .actions;
+    tasks = refl;
+    last = refl;
+    own = knows .own;
+    above = knows .above;
+    used = knows .used;
+    crews = knows .crews;
   }

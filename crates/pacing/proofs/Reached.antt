@@ -5,6 +5,7 @@ use mathlib.Core.List.{List}
 use Prim.Native.Nat.{ℕ, zero, suc, _+_, _≤_, _<_}
 use native.Mathlib.Omega.{arith}
 use lib.ListN.{length}
+use Rattle.study.specs.Study.{Roster}
 use Rattle.study.specs.Reading.{Said, Draft, blank, settled, onward, verdictAt, reading}
 use Rattle.study.proofs.Verdicts.{read-settled, read-onward}
 use Rattle.pacing.specs.Reads.{Reached}
@@ -22,7 +23,7 @@ module _ {file : List ℕ} {at : ℕ} {d : Draft} (reached : Reached file at d) 
       go zero e = absurd (omega (arith, reached .enough))
       go (suc n) e = (n, e)
 
-  pub settles : {s : Said} → verdictAt file at d ≡ settled s → reading file ≡ s
+  pub settles : {s : Said Roster} → verdictAt file at d ≡ settled s → reading file ≡ s
   settles v = reached .reads ∙ read-settled file at d (looked .1) v
 
   pub goes-further : {next : ℕ} {d′ : Draft} → verdictAt file at d ≡ onward next d′ → at < next → Reached file next d′

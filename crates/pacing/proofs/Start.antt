@@ -22,4 +22,5 @@ nothing-known counts =
       own = refl;
       above = λ v. leb·zero v;
       used = λ v. bit-zero v;
+      crews = refl;
     }

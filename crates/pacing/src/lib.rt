@@ -8,9 +8,9 @@ ghost use lib.Dec.{ltb};
 ghost use Rattle.study.specs.Reading.{Draft, settled, ended, firstRepeat, verdictAt, mayFollow};
 ghost use Rattle.records.specs.Records.{recordAt};
 ghost use Rattle.records.specs.declared.Found.the-variants.{There};
-ghost use Rattle.tables.specs.Tables.{tables};
+ghost use Rattle.tables.specs.Tables.{tables, seedOf};
 ghost use Rattle.tables.specs.Rows.{countColumn, seen, seenAll};
-ghost use Rattle.pacing.specs.Reads.{Safe, Stands, Further, Meets, notThere, seedOf};
+ghost use Rattle.pacing.specs.Reads.{Safe, Stands, Further, Meets, notThere};
 use entering::Progress;
 use entering::Step;
 use judging::order;
@@ -61,12 +61,10 @@ fn on_end(
 ) -> Step
     requires { ⌜ p .actions ≤ 256 ⌝ }
     ensures { λ r. ⌜ ((file counts : List ℕ) (at : ℕ) → Further file at counts r) ⌝ }
-    ensures { λ r. ⌜ ((file counts starts goals : List ℕ) (d : Draft)
+    ensures { λ r. ⌜ ((file counts starts goals begins : List ℕ) (d : Draft)
         → len ≡ length file
-        → p .last ≡ 5
-        → p .tasks ≤ p .vars
-        → Stands file p (tables counts (seen (now (setters .entry)) (now (acts .entry))) starts goals) d
-        → Meets file (settled (ended file next d (firstRepeat (d .study)))) (tables counts (seen (now (setters .exit)) (now (acts .entry))) starts goals) r) ⌝ }
+        → Stands file p (tables counts (seen (now (setters .entry)) (now (acts .entry))) starts goals) begins d
+        → Meets file (settled (ended file next d (firstRepeat (d .study)))) (tables counts (seen (now (setters .exit)) (now (acts .entry))) starts goals) begins r) ⌝ }
 {
     let repeat = setters::fill(p.actions, acts, setters);
     if repeat < p.actions {
@@ -108,13 +106,14 @@ fn take(
     acts: &mut [[u8; 6]; 256],
     vars: &mut [[u8; 3]; 32],
     setters: &mut [u8; 512],
+    crews: &mut [u16; 8],
 ) -> Step
     requires { ⌜ Safe (now file) p (countColumn (now vars)) ⌝ }
     requires { ⌜ ((next : ℕ) × (recordAt (now file) (p .at) ≡ There kind start next) × (mayFollow (ltb (p .tasks) (p .vars)) (p .last) kind ≡ true)) ⌝ }
     ensures { λ r. ⌜ Further (now (file .entry)) (p .at) (countColumn (now (vars .exit))) r ⌝ }
     ensures { λ r. ⌜ ((d : Draft)
-        → Stands (now (file .entry)) p (seenAll (now (acts .entry)) (now (vars .entry)) (now (setters .entry))) d
-        → Meets (now (file .entry)) (verdictAt (now (file .entry)) (p .at) d) (seenAll (now (acts .exit)) (now (vars .exit)) (now (setters .exit))) r) ⌝ }
+        → Stands (now (file .entry)) p (seenAll (now (acts .entry)) (now (vars .entry)) (now (setters .entry))) (now (crews .entry)) d
+        → Meets (now (file .entry)) (verdictAt (now (file .entry)) (p .at) d) (seenAll (now (acts .exit)) (now (vars .exit)) (now (setters .exit))) (now (crews .exit)) r) ⌝ }
 {
     match kind {
         1 => entering::on_variable(p, file[start], start + 1, vars),
@@ -145,9 +144,11 @@ fn take(
                 file[start + 3],
             ),
             start + 4,
+            crews,
         ),
         7 => entering::on_times(p, file[start], start + 1, acts),
         8 => entering::on_present(p, file[start], start + 1),
+        9 => entering::on_crew(p, start),
         _ => on_end(p, file.len(), start, acts, setters),
     }
 }
@@ -159,12 +160,13 @@ pub fn step(
     acts: &mut [[u8; 6]; 256],
     vars: &mut [[u8; 3]; 32],
     setters: &mut [u8; 512],
+    crews: &mut [u16; 8],
 ) -> Step
     requires { ⌜ Safe (now file) p (countColumn (now vars)) ⌝ }
     ensures { λ r. ⌜ Further (now (file .entry)) (p .at) (countColumn (now (vars .exit))) r ⌝ }
     ensures { λ r. ⌜ ((d : Draft)
-        → Stands (now (file .entry)) p (seenAll (now (acts .entry)) (now (vars .entry)) (now (setters .entry))) d
-        → Meets (now (file .entry)) (verdictAt (now (file .entry)) (p .at) d) (seenAll (now (acts .exit)) (now (vars .exit)) (now (setters .exit))) r) ⌝ }
+        → Stands (now (file .entry)) p (seenAll (now (acts .entry)) (now (vars .entry)) (now (setters .entry))) (now (crews .entry)) d
+        → Meets (now (file .entry)) (verdictAt (now (file .entry)) (p .at) d) (seenAll (now (acts .exit)) (now (vars .exit)) (now (setters .exit))) (now (crews .exit)) r) ⌝ }
 {
     let at = p.at;
     let found = reader::record_from(file, at);
@@ -182,5 +184,5 @@ pub fn step(
             place: at,
         };
     }
-    take(file, p, kind, start, acts, vars, setters)
+    take(file, p, kind, start, acts, vars, setters, crews)
 }

@@ -1,4 +1,4 @@
--- What the program prints of a file: the answer to planning it with its own seed, as text.
+-- What the program prints of a file for a crew: the answer to planning it with the crew's own seed, as text.
 -- Assumes nothing.
 use Prim.Native.Nat.{ℕ}
 use mathlib.Core.Path.{_≡_}
@@ -7,12 +7,12 @@ use lib.Dec.{eqb}
 use lib.ListN.{take, replicate}
 use Rattle.plain.specs.Choose.{pick}
 use Rattle.answer.specs.declared.Answer.{Answer}
-use Rattle.study.specs.Study.{Action}
+use Rattle.study.specs.Study.{Action, Study}
 use Rattle.study.specs.Reading.{Said, says, refused}
 use Rattle.planning.specs.Seeded.{PlansSeeded}
 use Rattle.telling.specs.Text.{shownOf, planText, refusedLine}
 
-abbrev pub actionsOf : Said → List Action
+abbrev pub actionsOf : Said Study → List Action
 actionsOf (says t) = t .actions
 actionsOf (refused number place) = []
 
@@ -22,7 +22,7 @@ textOf actions r buffer =
     pick (eqb (r .number) 0) (planText (shownOf actions) (take (r .first) buffer)) (refusedLine (r .number) (r .first) (r .second))
 
 -- planning with the seed, into 256 zeros, may give an answer whose text this is
-pub record Printed (said : Said) (text : List ℕ) : Type 0 where
+pub record Printed (said : Said Study) (text : List ℕ) : Type 0 where
   pub answer : Answer
   pub buffer : List ℕ
   pub plans : PlansSeeded said (replicate 256 0) answer buffer

@@ -11,9 +11,9 @@ use Rattle.ranking.specs.declared.Tested.{Tested}
 use Rattle.ranking.specs.declared.Tested.the-variants.{Fine, Length, Entry}
 use Rattle.ranking.proofs.Fine.{fine-is-rank-list}
 use Rattle.study.specs.Study.{Study}
-use Rattle.study.specs.Reading.{Said, says, refused, reading}
+use Rattle.study.specs.Reading.{Said, says, refused, readingFor}
 use Rattle.lawful.specs.Lawful.{Lawful}
-use Rattle.lawful.proofs.Loads.{LawfulIfSaid, reading-lawful}
+use Rattle.lawful.proofs.Loads.{LawfulIfHeard, hearing-lawful}
 use Rattle.orders.proofs.Lists.{counted-unique}
 use Rattle.walks.proofs.Breaks.{breaks-determined}
 use Rattle.planning.specs.Planning.{LowestWithout, LowestOff, Plans, PlansFile}
@@ -90,13 +90,13 @@ module _ {t : Study} (lawful : Lawful t) {ranks before : List ℕ} where
   plans-determined p q = way-determined (way-of p) (way-of q)
 
 pub plans-file-determined :
-    (said : Said) → LawfulIfSaid said → (ranks before : List ℕ) {r r′ : Answer} {after after′ : List ℕ}
+    (said : Said Study) → LawfulIfHeard said → (ranks before : List ℕ) {r r′ : Answer} {after after′ : List ℕ}
     → PlansFile said ranks before r after → PlansFile said ranks before r′ after′ → (r ≡ r′) × (after ≡ after′)
 plans-file-determined (says t) lawful ranks before p q = plans-determined lawful p q
 plans-file-determined (refused number place) lawful ranks before p q = (p .0 ∙ sym (q .0), p .1 ∙ sym (q .1))
 
--- .. and so for every file, as a file that loads says a lawful study
+-- .. and so for every file and crew, as what a crew hears is a lawful study
 pub file-plans-determined :
-    (file ranks before : List ℕ) {r r′ : Answer} {after after′ : List ℕ}
-    → PlansFile (reading file) ranks before r after → PlansFile (reading file) ranks before r′ after′ → (r ≡ r′) × (after ≡ after′)
-file-plans-determined file = plans-file-determined (reading file) (reading-lawful file)
+    (file : List ℕ) (crew : ℕ) (ranks before : List ℕ) {r r′ : Answer} {after after′ : List ℕ}
+    → PlansFile (readingFor file crew) ranks before r after → PlansFile (readingFor file crew) ranks before r′ after′ → (r ≡ r′) × (after ≡ after′)
+file-plans-determined file crew = plans-file-determined (readingFor file crew) (hearing-lawful file crew)

@@ -10,7 +10,7 @@ use Rattle.answer.specs.declared.Answer.{Answer}
 use Rattle.ranking.specs.Ranking.{tested}
 use Rattle.ranking.specs.declared.Tested.the-variants.{Fine, Length, Entry}
 use Rattle.study.specs.Study.{Study}
-use Rattle.study.specs.Reading.{Said, says, refused, reading}
+use Rattle.study.specs.Reading.{Said, says, refused, readingFor}
 use Rattle.plans.specs.Plans.{StraightPlan}
 use Rattle.orders.specs.Orders.{OnRing, Behind, Counted, First}
 use Rattle.planning.specs.Refusals.{notRanked, withoutWalk, offWalk, withRing, shortBuffer}
@@ -64,10 +64,10 @@ pub data Plans (t : Study) (ranks before : List ℕ) : Answer → List ℕ → T
       {list : List ℕ} → tested ranks (length (t .actions)) ≡ Fine → FirstPlan t ranks list → length list ≤ length before
       → Plans t ranks before (done (length list) 0) (list ++ drop (length list) before)
 
--- what planning what a file says may answer, and so planning a file
-abbrev pub PlansFile : Said → List ℕ → List ℕ → Allowing
+-- what planning what a file says to a crew may answer, and so planning a file for a crew
+abbrev pub PlansFile : Said Study → List ℕ → List ℕ → Allowing
 PlansFile (says t) ranks before = Plans t ranks before
 PlansFile (refused number place) ranks before = Exactly (refusal number place) before
 
-abbrev pub PlanAllows : List ℕ → List ℕ → List ℕ → Allowing
-PlanAllows file = PlansFile (reading file)
+abbrev pub PlanAllows : List ℕ → ℕ → List ℕ → List ℕ → Allowing
+PlanAllows file crew = PlansFile (readingFor file crew)

@@ -19,16 +19,16 @@ reads-on file at = in-file (decLt at (length file))
     Goal : Type 0
     Goal = recordAt file (nextOf (recordAt file at)) ≡ recordAfter file at
 
-    whole : at < length file → 1 ≤ k → k ≤ 8 → Dec (at + 1 + bodyLength k ≤ length file) → Goal
+    whole : at < length file → 1 ≤ k → k ≤ 9 → Dec (at + 1 + bodyLength k ≤ length file) → Goal
     whole i l h (yes w) = rw (record-there file at i l h w)
     whole i l h (no w) = let e = record-cut file at i l h (omega arith) in rw e e
 
-    high : at < length file → 1 ≤ k → Dec (k ≤ 8) → Goal
+    high : at < length file → 1 ≤ k → Dec (k ≤ 9) → Goal
     high i l (yes h) = whole i l h (decLe (at + 1 + bodyLength k) (length file))
     high i l (no h) = let e = record-unknown-high file at i l (omega arith) in rw e e
 
     low : at < length file → Dec (1 ≤ k) → Goal
-    low i (yes l) = high i l (decLe k 8)
+    low i (yes l) = high i l (decLe k 9)
     low i (no l) = let e = record-unknown-low file at i (omega arith) in rw e e
 
     in-file : Dec (at < length file) → Goal

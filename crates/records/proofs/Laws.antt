@@ -28,16 +28,17 @@ body-length-small (suc (suc (suc (suc (suc zero))))) = omega arith
 body-length-small (suc (suc (suc (suc (suc (suc zero)))))) = omega arith
 body-length-small (suc (suc (suc (suc (suc (suc (suc zero))))))) = omega arith
 body-length-small (suc (suc (suc (suc (suc (suc (suc (suc zero)))))))) = omega arith
-body-length-small (suc (suc (suc (suc (suc (suc (suc (suc (suc kind))))))))) = omega arith
+body-length-small (suc (suc (suc (suc (suc (suc (suc (suc (suc zero))))))))) = omega arith
+body-length-small (suc (suc (suc (suc (suc (suc (suc (suc (suc (suc kind)))))))))) = omega arith
 
--- a number from 1 on that is none of 1 to 8
+-- a number from 1 on that is none of 1 to 9
 one-higher : (low k : ℕ) → low ≤ k → k ≢ low → suc low ≤ k
 one-higher low k h d = omega (arith, d)
 
 pub beyond-the-kinds :
-    {k : ℕ} → 1 ≤ k → k ≢ 1 → k ≢ 2 → k ≢ 3 → k ≢ 4 → k ≢ 5 → k ≢ 6 → k ≢ 7 → k ≢ 8 → 8 < k
-beyond-the-kinds {k} low a b c d e f g h =
-    one-higher 8 k (one-higher 7 k (one-higher 6 k (one-higher 5 k (one-higher 4 k (one-higher 3 k (one-higher 2 k (one-higher 1 k low a) b) c) d) e) f) g) h
+    {k : ℕ} → 1 ≤ k → k ≢ 1 → k ≢ 2 → k ≢ 3 → k ≢ 4 → k ≢ 5 → k ≢ 6 → k ≢ 7 → k ≢ 8 → k ≢ 9 → 9 < k
+beyond-the-kinds {k} low a b c d e f g h i =
+    one-higher 9 k (one-higher 8 k (one-higher 7 k (one-higher 6 k (one-higher 5 k (one-higher 4 k (one-higher 3 k (one-higher 2 k (one-higher 1 k low a) b) c) d) e) f) g) h) i
 
 -- which case of recordAt holds, by the tests that lead to it
 module _ (file : List ℕ) (at : ℕ) where
@@ -54,33 +55,33 @@ module _ (file : List ℕ) (at : ℕ) where
     unfolding recordOf
     record-unknown-low h = rw (of-its-kind, lt-leb 1 (getD file at 0) h)
 
-    pub record-unknown-high : 1 ≤ getD file at 0 → 8 < getD file at 0 → recordAt file at ≡ Unknown at
+    pub record-unknown-high : 1 ≤ getD file at 0 → 9 < getD file at 0 → recordAt file at ≡ Unknown at
     unfolding recordOf
-    record-unknown-high l h = rw (of-its-kind, le-leb 1 (getD file at 0) l, lt-leb (getD file at 0) 8 h)
+    record-unknown-high l h = rw (of-its-kind, le-leb 1 (getD file at 0) l, lt-leb (getD file at 0) 9 h)
 
-    pub record-of-kind : (kind : ℕ) → getD file at 0 ≡ kind → 1 ≤ kind → kind ≤ 8 → recordAt file at ≡ bodied (length file) at kind (bodyLength kind)
+    pub record-of-kind : (kind : ℕ) → getD file at 0 ≡ kind → 1 ≤ kind → kind ≤ 9 → recordAt file at ≡ bodied (length file) at kind (bodyLength kind)
     unfolding recordOf
-    record-of-kind kind e low high = rw (of-its-kind, e, le-leb 1 kind low, le-leb kind 8 high)
+    record-of-kind kind e low high = rw (of-its-kind, e, le-leb 1 kind low, le-leb kind 9 high)
 
-    module _ (low : 1 ≤ getD file at 0) (high : getD file at 0 ≤ 8) where
+    module _ (low : 1 ≤ getD file at 0) (high : getD file at 0 ≤ 9) where
       pub record-there :
           at + 1 + bodyLength (getD file at 0) ≤ length file
           → recordAt file at ≡ There (getD file at 0) (at + 1) (at + 1 + bodyLength (getD file at 0))
       unfolding recordOf
-      record-there h = rw (of-its-kind, le-leb 1 (getD file at 0) low, le-leb (getD file at 0) 8 high, le-leb (at + 1 + bodyLength (getD file at 0)) (length file) h)
+      record-there h = rw (of-its-kind, le-leb 1 (getD file at 0) low, le-leb (getD file at 0) 9 high, le-leb (at + 1 + bodyLength (getD file at 0)) (length file) h)
 
       pub record-cut :
           length file < at + 1 + bodyLength (getD file at 0)
           → recordAt file at ≡ Cut (getD file at 0) at
       unfolding recordOf
-      record-cut h = rw (of-its-kind, le-leb 1 (getD file at 0) low, le-leb (getD file at 0) 8 high, lt-leb (at + 1 + bodyLength (getD file at 0)) (length file) h)
+      record-cut h = rw (of-its-kind, le-leb 1 (getD file at 0) low, le-leb (getD file at 0) 9 high, lt-leb (at + 1 + bodyLength (getD file at 0)) (length file) h)
 
 -- where a record that is there lies: inside the file, its body right behind its kind
 pub record Lies (file : List ℕ) (at kind start next : ℕ) : Type 0 where
   pub inside : at < length file
   pub is-kind : kind ≡ getD file at 0
   pub low : 1 ≤ kind
-  pub high : kind ≤ 8
+  pub high : kind ≤ 9
   pub starts : start ≡ at + 1
   pub goes-on : next ≡ at + 1 + bodyLength kind
   pub whole : next ≤ length file
@@ -94,7 +95,7 @@ there-lies file at {kind} {start} {next} e = in-file (decLt at (length file))
     other : {A : Type 0} (f : Found) → f ≡ recordAt file at → (f ≡ There kind start next → ⊥) → A
     other f g h = absurd (h (g ∙ e))
 
-    fits : at < length file → 1 ≤ k → k ≤ 8 → Dec (at + 1 + bodyLength k ≤ length file) → Lies file at kind start next
+    fits : at < length file → 1 ≤ k → k ≤ 9 → Dec (at + 1 + bodyLength k ≤ length file) → Lies file at kind start next
     fits i l h (yes w) =
         let t = record-there file at i l h w in
         let a : kind ≡ k = cc in
@@ -104,12 +105,12 @@ there-lies file at {kind} {start} {next} e = in-file (decLt at (length file))
     fits i l h (no w) =
         other (Cut k at) (sym (record-cut file at i l h (omega arith))) (λ x. let z : _≡_ {A = ℕ} 0 1 = cc in omega arith)
 
-    high : at < length file → 1 ≤ k → Dec (k ≤ 8) → Lies file at kind start next
+    high : at < length file → 1 ≤ k → Dec (k ≤ 9) → Lies file at kind start next
     high i l (yes h) = fits i l h (decLe (at + 1 + bodyLength k) (length file))
     high i l (no h) = other (Unknown at) (sym (record-unknown-high file at i l (omega arith))) (λ x. let z : _≡_ {A = ℕ} 0 1 = cc in omega arith)
 
     low : at < length file → Dec (1 ≤ k) → Lies file at kind start next
-    low i (yes l) = high i l (decLe k 8)
+    low i (yes l) = high i l (decLe k 9)
     low i (no l) = other (Unknown at) (sym (record-unknown-low file at i (omega arith))) (λ x. let z : _≡_ {A = ℕ} 0 1 = cc in omega arith)
 
     in-file : Dec (at < length file) → Lies file at kind start next

@@ -9,16 +9,16 @@ use Rattle.plain.specs.Choose.{pick}
 use Rattle.records.specs.declared.Found.{Found}
 use Rattle.records.specs.declared.Found.the-variants.{There, Unknown, Cut, Ended}
 
--- body lengths by kind: none, variable, action, condition, task, seed, end, situations, situation
+-- body lengths by kind: none, variable, action, condition, task, seed, end, situations, situation, crew
 unfoldable pub bodyLengths : List ℕ
-bodyLengths = 0 ∷ 1 ∷ 3 ∷ 2 ∷ 3 ∷ 4 ∷ 0 ∷ 1 ∷ 1 ∷ []
+bodyLengths = 0 ∷ 1 ∷ 3 ∷ 2 ∷ 3 ∷ 4 ∷ 0 ∷ 1 ∷ 1 ∷ 0 ∷ []
 
 unfoldable pub bodyLength : ℕ → ℕ
 bodyLength kind = getD bodyLengths kind 0
 
--- kinds 1 to 8
+-- kinds 1 to 9
 abbrev pub known : ℕ → Bool
-known kind = leb 1 kind && leb kind 8
+known kind = leb 1 kind && leb kind 9
 
 -- a record of this kind at a place, its body so long: whole, or cut by the file's end
 abbrev pub bodied : ℕ → ℕ → ℕ → ℕ → Found

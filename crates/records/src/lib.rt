@@ -38,7 +38,7 @@ fn with_body(len: usize, at: usize, kind: u8, body: usize) -> Found
 const LENGTHS: u64 = 0x110432310;
 
 fn body_length(kind: u8) -> usize
-    requires { ⌜ (1 ≤ kind) × (kind ≤ 8) ⌝ }
+    requires { ⌜ (1 ≤ kind) × (kind ≤ 9) ⌝ }
     ensures { λ r. ⌜ (r ≡ bodyLength kind) × (r ≤ 4) ⌝ }
 {
     ((LENGTHS >> (4 * kind)) % 16) as usize
@@ -56,7 +56,7 @@ pub fn record_at(file: &[u8], at: usize) -> Found
     if kind < 1 {
         return Found::Unknown { place: at };
     }
-    if 8 < kind {
+    if 9 < kind {
         return Found::Unknown { place: at };
     }
     with_body(len, at, kind, body_length(kind))
@@ -65,7 +65,7 @@ pub fn record_at(file: &[u8], at: usize) -> Found
 // Whether a whole record of this kind stands at a place, its body so long: for who asks for one kind alone. Who is told no
 // is told nothing else, and asks record_at.
 pub fn is_at(file: &[u8], at: usize, kind: u8, body: usize) -> bool
-    ensures { λ r. ⌜ (1 ≤ kind → kind ≤ 8 → body ≡ bodyLength kind → r ≡ true
+    ensures { λ r. ⌜ (1 ≤ kind → kind ≤ 9 → body ≡ bodyLength kind → r ≡ true
         → recordAt (now (file .entry)) at ≡ There kind (at + 1) (at + 1 + body)) ⌝ }
 {
     if file.len() <= at {

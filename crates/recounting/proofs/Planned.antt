@@ -10,9 +10,8 @@ use lib.Dec.{ltb}
 use lib.ListN.{length, getD}
 use Rattle.bits.specs.Bits.{within}
 use Rattle.study.specs.Study.{Study}
-use Rattle.study.specs.Reading.{says, reading}
+use Rattle.study.specs.Reading.{says, readingFor}
 use Rattle.lawful.specs.Lawful.{Lawful}
-use Rattle.lawful.proofs.Loads.{loads-lawful}
 use Rattle.plans.specs.Plans.{StraightPlan}
 use Rattle.orders.specs.Orders.{In}
 use Rattle.orders.proofs.Lists.{entry-in, distinct-entries-differ}
@@ -30,10 +29,11 @@ use Rattle.explained.specs.Wanters.{Sets, Noted}
 use Rattle.explained.proofs.Reasons.{in-stands, set-on-walk, left-on-walk, on-walk, once}
 use Rattle.reasons.specs.Known.{SetIn, Placed, Reasonable}
 
--- what is loaded of a file that says a study holds it
+-- what is loaded of a file for a crew to which it says a study holds that
 pub loads-holds :
-    (file : List ℕ) (t : Study) {tables : Tables} {nv na x : ℕ} → reading file ≡ says t → Loads file tables (Load.Study nv na x) → Holds file nv na x tables t
-loads-holds file t {tables} {nv} {na} {x} said (s, other, holds) = let same : s ≡ t = cc in rw same at holds
+    (file : List ℕ) (crew : ℕ) (t : Study) {tables : Tables} {nv na x : ℕ}
+    → readingFor file crew ≡ says t → Loads file crew tables (Load.Study nv na x) → Holds file nv na x tables t
+loads-holds file crew t {tables} {nv} {na} {x} said (s, other, holds) = let same : s ≡ t = cc in rw same at holds
 
 module _ {file : List ℕ} {nv na x : ℕ} {tables : Tables} {t : Study} (lawful : Lawful t) (holds : Holds file nv na x tables t) where
   module _ {plan : List ℕ} (straight : StraightPlan t plan) where

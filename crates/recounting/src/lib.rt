@@ -3,21 +3,21 @@ ghost use mathlib.Core.Path.{_≡_};
 ghost use Prim.Native.Nat.{_≤_, _<_};
 ghost use lib.ListN.{length, getD, take};
 ghost use Rattle.study.specs.Study.{Study};
-ghost use Rattle.study.specs.Reading.{reading, says};
+ghost use Rattle.study.specs.Reading.{readingFor, says};
 ghost use Rattle.plans.specs.Plans.{StraightPlan};
 ghost use Rattle.explained.specs.Explained.{stepText};
 ghost use Rattle.recounting.specs.Ready.{Ready};
 use libc::STDOUT_FILENO;
 use tables::Loaded;
 
-// A plan with the reasons of its steps, a piece for each step.
-pub fn print_plan(file: &[u8], plan: &[u8])
-    requires { ⌜ (length (now plan) ≤ 256) × ((t : Study) × (reading (now file) ≡ says t) × StraightPlan t (now plan)) ⌝ }
+// A plan for a crew with the reasons of its steps, a piece for each step.
+pub fn print_plan(file: &[u8], crew: u64, plan: &[u8])
+    requires { ⌜ (length (now plan) ≤ 256) × ((t : Study) × (readingFor (now file) crew ≡ says t) × StraightPlan t (now plan)) ⌝ }
 {
     let mut acts = [[0u8; 6]; 256];
     let mut vars = [[0u8; 3]; 32];
     let mut setters = [0u8; 512];
-    let loaded = loader::load(file, &mut acts, &mut vars, &mut setters);
+    let loaded = mustering::load_for(file, crew, &mut acts, &mut vars, &mut setters);
     let Loaded::Study {
         vars: _,
         actions,

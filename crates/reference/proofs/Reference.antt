@@ -18,7 +18,7 @@ use Rattle.ranking.proofs.Fine.{fine-is-rank-list}
 use Rattle.study.specs.Study.{Study}
 use Rattle.study.specs.Reading.{Said, says, refused}
 use Rattle.lawful.specs.Lawful.{Lawful}
-use Rattle.lawful.proofs.Loads.{LawfulIfSaid}
+use Rattle.lawful.proofs.Loads.{LawfulIfHeard}
 use Rattle.orders.specs.Orders.{In, None, Greedy}
 use Rattle.walks.specs.Walks.{OnAWalk, ComesBefore, Walks, Met}
 use Rattle.planning.specs.Refusals.{notRanked, withRing, shortBuffer}
@@ -73,7 +73,7 @@ planned t ranks before =
     ifFine (tested ranks (length (t .actions))) ranks before
     (unlessBarred (barred t) before (unlessLeft (leftOut t (chosen t ranks)) (chosen t ranks) before))
 
-abbrev pub plannedFile : Said → List ℕ → List ℕ → Outcome
+abbrev pub plannedFile : Said Study → List ℕ → List ℕ → Outcome
 plannedFile (says t) ranks before = planned t ranks before
 plannedFile (refused number place) ranks before = gives (refusal number place) before
 
@@ -135,7 +135,7 @@ module _ {t : Study} (lawful : Lawful t) where
         go (Entry k) e = wrong-entry e
 
 pub planned-file-allowed :
-    (said : Said) → LawfulIfSaid said → (ranks before : List ℕ)
+    (said : Said Study) → LawfulIfHeard said → (ranks before : List ℕ)
     → PlansFile said ranks before (plannedFile said ranks before .answer) (plannedFile said ranks before .bytes)
 planned-file-allowed (says t) lawful ranks before = planned-allowed lawful ranks before
 planned-file-allowed (refused number place) lawful ranks before = (refl, refl)

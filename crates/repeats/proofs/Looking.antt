@@ -17,7 +17,7 @@ use Rattle.study.specs.Study.{Condition, Action, inForce}
 use Rattle.study.specs.Reading.{setsTo, sets, repeatFrom}
 use Rattle.study.proofs.Setters.{sets-more}
 use Rattle.lawful.specs.Lengths.{bytesOfTimes, placesFrom}
-use Rattle.spelling.specs.Lent.{firstOf, left, actionsIn}
+use Rattle.spelling.specs.Lent.{unlentCondition, firstOf, left, actionsIn}
 use Rattle.spelling.proofs.LentBytes.{five-bytes, so-many-first}
 use Rattle.repeats.specs.Repeats.{entryLength, Small}
 
@@ -76,7 +76,7 @@ module _ (situation front : ℕ) (actions : List ℕ) (all : List Action) where
 
     abbrev this : Action
     this =
-        record { var = getD actions i 0; pre = byte 1; post = byte 2; conditions = firstOf (byte 4) (l .conditions); situations = byte 3 }
+        record { var = getD actions i 0; pre = byte 1; post = byte 2; conditions = firstOf unlentCondition (byte 4) (l .conditions); situations = byte 3 }
 
     abbrev rest : List Action
     rest = actionsIn (drop (i + 5) actions) (drop (byte 4) (l .conditions))
@@ -123,7 +123,7 @@ module _ (situation front : ℕ) (actions : List ℕ) (all : List Action) where
     }
       where
         its-end : place + 4 + 3 * length (this .conditions) + bytesOfTimes (byte 3) ≡ place + entryLength (byte 3) (byte 4)
-        its-end = omega (arith, so-many-first (byte 4) (l .conditions))
+        its-end = omega (arith, so-many-first unlentCondition (byte 4) (l .conditions))
 
     pub out-of-force : bit (byte 3) situation ≡ false → Looked marks (place + entryLength (byte 3) (byte 4)) (i + 5)
     unfolding inForce

@@ -1,4 +1,4 @@
-// Reports how varied the plans of so many seeds in a row are.
+// Reports how varied the plans of a crew are that so many seeds in a row give.
 ghost use mathlib.Core.Path.{_≡_};
 ghost use Rattle.answer.specs.Answers.{refusal};
 ghost use Rattle.varied.specs.Report.{ReportAllows};
@@ -43,13 +43,13 @@ fn judged(first: u64, n: u64) -> Answer
 }
 
 // Answer 0 gives the report's length and writes the report; a refusal alters nothing.
-pub fn report(file: &[u8], first: u64, n: u64, report: &mut [u8]) -> Answer
-    ensures { λ r. ⌜ ReportAllows (now (file .entry)) first n (now (report .entry)) r (now (report .exit)) ⌝ }
+pub fn report(file: &[u8], crew: u64, first: u64, n: u64, report: &mut [u8]) -> Answer
+    ensures { λ r. ⌜ ReportAllows (now (file .entry)) crew first n (now (report .entry)) r (now (report .exit)) ⌝ }
 {
     let mut acts = [[0u8; 6]; 256];
     let mut vars = [[0u8; 3]; 32];
     let mut setters = [0u8; 512];
-    let found = loader::load(file, &mut acts, &mut vars, &mut setters);
+    let found = mustering::load_for(file, crew, &mut acts, &mut vars, &mut setters);
     let Loaded::Study {
         vars: v,
         actions,

@@ -1,4 +1,4 @@
--- What running a list answers: the file's own refusal, then 13, then step by step 14, 20, 15, 16, then 17; or 0 with the number of variables, and the end state in the buffer.
+-- What running a list for a crew answers: the file's own refusal, then 22, then 13, then step by step 14, 20, 15, 16, then 17; or 0 with the number of variables, and the end state in the buffer.
 -- Assumes nothing.
 use Prim.Native.Nat.{ℕ, _+_}
 use mathlib.Core.Bool.{Bool, false, _||_}
@@ -10,7 +10,7 @@ use Rattle.answer.specs.Answers.{three, done, refusal}
 use Rattle.answer.specs.Allowing.{Allowing, Exactly}
 use Rattle.answer.specs.declared.Answer.{Answer}
 use Rattle.study.specs.Study.{Condition, Action, Task, Study, inForce, actionAt}
-use Rattle.study.specs.Reading.{Said, says, refused, reading}
+use Rattle.study.specs.Reading.{Said, says, refused, readingFor}
 use Rattle.plans.specs.Plans.{State, valueOf, after, startState}
 
 -- a run ends in a state, or is refused
@@ -59,8 +59,8 @@ runOn t past s k (i ∷ rest) =
     (stepped past s (actionAt (t .actions) i) k (barred s (actionAt (t .actions) i)) (runOn t (s ∷ past) (after s (actionAt (t .actions) i)) (k + 1) rest))
     (stops (refusal 20 k)))
 
--- a list run on what a file says, with room for an end state
-unfoldable pub ran : Said → ℕ → List ℕ → Ran
+-- a list run on what a file says to a crew, with room for an end state
+unfoldable pub ran : Said Study → ℕ → List ℕ → Ran
 ran (says t) room list = pick (ltb room (length (t .counts))) (stops (refusal 13 (length (t .counts)))) (runOn t [] (startState t) 0 list)
 ran (refused number place) room list = stops (refusal number place)
 
@@ -73,7 +73,7 @@ abbrev pub runLeaves : Ran → List ℕ → List ℕ
 runLeaves (endsIn s) before = s ++ drop (length s) before
 runLeaves (stops a) before = before
 
--- what running a list on a file may answer, and the buffer afterwards
-abbrev pub RunAllows : List ℕ → List ℕ → List ℕ → Allowing
-RunAllows file list before =
-    Exactly (runAnswer (ran (reading file) (length before) list)) (runLeaves (ran (reading file) (length before) list) before)
+-- what running a list on a file for a crew may answer, and the buffer afterwards
+abbrev pub RunAllows : List ℕ → ℕ → List ℕ → List ℕ → Allowing
+RunAllows file crew list before =
+    Exactly (runAnswer (ran (readingFor file crew) (length before) list)) (runLeaves (ran (readingFor file crew) (length before) list) before)

@@ -7,8 +7,8 @@ use lib.ListN.{length}
 use Rattle.answer.specs.declared.Answer.{Answer}
 use Rattle.answer.specs.Allowing.{Exactly, Answers, AnswersOne}
 use Rattle.records.specs.Records.{recordAt}
-use Rattle.study.specs.Reading.{reading}
-use Rattle.lawful.proofs.Loads.{reading-lawful}
+use Rattle.study.specs.Reading.{reading, readingFor}
+use Rattle.lawful.proofs.Loads.{hearing-lawful}
 use Rattle.checker.specs.Check.{checkAnswer, CheckAllows}
 use Rattle.draw.specs.Draw.{drawAnswer, drawLeaves, DrawAllows}
 use Rattle.runs.specs.Run.{ran, runAnswer, runLeaves, RunAllows}
@@ -36,25 +36,26 @@ record-answered file at = record { answer = told (recordAt file at); allowed = r
 pub draw-answered : (seed count : ℕ) (before : List ℕ) → Answers (DrawAllows seed count before)
 draw-answered seed count before = exactly-answers (drawAnswer seed count (length before)) (drawLeaves seed count before)
 
-pub run-answered : (file list before : List ℕ) → Answers (RunAllows file list before)
-run-answered file list before =
-    exactly-answers (runAnswer (ran (reading file) (length before) list)) (runLeaves (ran (reading file) (length before) list) before)
+pub run-answered : (file : List ℕ) (crew : ℕ) (list before : List ℕ) → Answers (RunAllows file crew list before)
+run-answered file crew list before =
+    exactly-answers (runAnswer (ran (readingFor file crew) (length before) list)) (runLeaves (ran (readingFor file crew) (length before) list) before)
 
-pub plan-answered : (file ranks before : List ℕ) → Answers (PlanAllows file ranks before)
-plan-answered file ranks before =
-    let given = plannedFile (reading file) ranks before in
-    record { answer = given .answer; bytes = given .bytes; allowed = planned-file-allowed (reading file) (reading-lawful file) ranks before }
+pub plan-answered : (file : List ℕ) (crew : ℕ) (ranks before : List ℕ) → Answers (PlanAllows file crew ranks before)
+plan-answered file crew ranks before =
+    let said = readingFor file crew in
+    let given = plannedFile said ranks before in
+    record { answer = given .answer; bytes = given .bytes; allowed = planned-file-allowed said (hearing-lawful file crew) ranks before }
 
-pub seeded-answered : (file before : List ℕ) → Answers (SeededAllows file before)
-seeded-answered file = plan-answered file (seedRanks (reading file))
+pub seeded-answered : (file : List ℕ) (crew : ℕ) (before : List ℕ) → Answers (SeededAllows file crew before)
+seeded-answered file crew = plan-answered file crew (seedRanks (readingFor file crew))
 
 pub write-answered :
-    (situation : ℕ) (variables actions conditions tasks : List ℕ) (seed : ℕ) (before : List ℕ)
-    → Answers (WriteAllows situation variables actions conditions tasks seed before)
+    (situation : ℕ) (variables actions conditions crews tasks before : List ℕ)
+    → Answers (WriteAllows situation variables actions conditions crews tasks before)
 write-answered = write-answers
 
-pub report-answered : (file : List ℕ) (first n : ℕ) (before : List ℕ) → Answers (ReportAllows file first n before)
+pub report-answered : (file : List ℕ) (crew first n : ℕ) (before : List ℕ) → Answers (ReportAllows file crew first n before)
 report-answered = report-answers
 
-pub chart-answered : (file actions pairs : List ℕ) → AnswersOne (ChartAllows file actions pairs)
+pub chart-answered : (file : List ℕ) (crew : ℕ) (actions pairs : List ℕ) → AnswersOne (ChartAllows file crew actions pairs)
 chart-answered = charts-answer

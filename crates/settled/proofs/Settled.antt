@@ -6,7 +6,7 @@ use Prim.Native.Nat.{ℕ}
 use lib.ListN.{length}
 use Rattle.answer.specs.declared.Answer.{Answer}
 use Rattle.answer.specs.Allowing.{Exactly, Settles, SettlesOne}
-use Rattle.study.specs.Reading.{reading}
+use Rattle.study.specs.Reading.{readingFor}
 use Rattle.checker.specs.Check.{CheckAllows}
 use Rattle.draw.specs.Draw.{drawAnswer, drawLeaves, DrawAllows}
 use Rattle.runs.specs.Run.{ran, runAnswer, runLeaves, RunAllows}
@@ -34,23 +34,23 @@ record-settled file at r r′ p q = p ∙ sym q
 pub draw-settled : (seed count : ℕ) (before : List ℕ) → Settles (DrawAllows seed count before)
 draw-settled seed count before = exactly-settles (drawAnswer seed count (length before)) (drawLeaves seed count before)
 
-pub run-settled : (file list before : List ℕ) → Settles (RunAllows file list before)
-run-settled file list before =
-    exactly-settles (runAnswer (ran (reading file) (length before) list)) (runLeaves (ran (reading file) (length before) list) before)
+pub run-settled : (file : List ℕ) (crew : ℕ) (list before : List ℕ) → Settles (RunAllows file crew list before)
+run-settled file crew list before =
+    exactly-settles (runAnswer (ran (readingFor file crew) (length before) list)) (runLeaves (ran (readingFor file crew) (length before) list) before)
 
-pub plan-settled : (file ranks before : List ℕ) → Settles (PlanAllows file ranks before)
-plan-settled file ranks before r r′ after after′ p q = file-plans-determined file ranks before p q
+pub plan-settled : (file : List ℕ) (crew : ℕ) (ranks before : List ℕ) → Settles (PlanAllows file crew ranks before)
+plan-settled file crew ranks before r r′ after after′ p q = file-plans-determined file crew ranks before p q
 
-pub seeded-settled : (file before : List ℕ) → Settles (SeededAllows file before)
-seeded-settled file = plan-settled file (seedRanks (reading file))
+pub seeded-settled : (file : List ℕ) (crew : ℕ) (before : List ℕ) → Settles (SeededAllows file crew before)
+seeded-settled file crew = plan-settled file crew (seedRanks (readingFor file crew))
 
 pub write-settled :
-    (situation : ℕ) (variables actions conditions tasks : List ℕ) (seed : ℕ) (before : List ℕ)
-    → Settles (WriteAllows situation variables actions conditions tasks seed before)
+    (situation : ℕ) (variables actions conditions crews tasks before : List ℕ)
+    → Settles (WriteAllows situation variables actions conditions crews tasks before)
 write-settled = write-settles
 
-pub report-settled : (file : List ℕ) (first n : ℕ) (before : List ℕ) → Settles (ReportAllows file first n before)
+pub report-settled : (file : List ℕ) (crew first n : ℕ) (before : List ℕ) → Settles (ReportAllows file crew first n before)
 report-settled = report-settles
 
-pub chart-settled : (file actions pairs : List ℕ) → SettlesOne (ChartAllows file actions pairs)
+pub chart-settled : (file : List ℕ) (crew : ℕ) (actions pairs : List ℕ) → SettlesOne (ChartAllows file crew actions pairs)
 chart-settled = charts-settle

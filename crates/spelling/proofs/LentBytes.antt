@@ -1,4 +1,4 @@
--- Lent bytes from a place on: those of one entry and those behind it; and the conditions in them, two bytes each.
+-- Lent bytes from a place on: those of one entry and those behind it; and the conditions in them, two bytes each, and the tasks, three.
 -- Assumes nothing.
 use mathlib.Core.Path.{_≡_, refl, ap}
 use mathlib.Core.List.{List, [], _∷_}
@@ -7,8 +7,7 @@ use native.Mathlib.Numerals.{add-one}
 use native.Mathlib.Omega.{arith}
 use lib.ListN.{length, getD, take, drop}
 use lib.Seq.{drop-cons, drop-nil}
-use Rattle.study.specs.Study.{Condition}
-use Rattle.spelling.specs.Lent.{conditionsIn, firstOf}
+use Rattle.spelling.specs.Lent.{unlentCondition, unlentErrand, conditionsIn, firstOf, errandsIn}
 
 module _ (bytes : List ℕ) where
   abbrev byte : ℕ → ℕ
@@ -47,15 +46,36 @@ conditions-behind (suc n) [] = rw (drop-nil (2 * suc n)) refl
 conditions-behind (suc n) (v ∷ []) = rw (twice n, drop-nil n)
 conditions-behind (suc n) (v ∷ q ∷ rest) = rw (twice n) (conditions-behind n rest)
 
-pub first-conditions : (n : ℕ) (bytes : List ℕ) → 2 * n ≤ length bytes → firstOf n (conditionsIn bytes) ≡ conditionsIn (take (2 * n) bytes)
+pub first-conditions : (n : ℕ) (bytes : List ℕ) → 2 * n ≤ length bytes → firstOf unlentCondition n (conditionsIn bytes) ≡ conditionsIn (take (2 * n) bytes)
 unfolding conditionsIn firstOf
 first-conditions zero bytes h = refl
 first-conditions (suc n) [] h = absurd (omega arith)
 first-conditions (suc n) (v ∷ []) h = absurd (omega arith)
 first-conditions (suc n) (v ∷ q ∷ rest) h = rw (twice n, first-conditions n rest (omega arith))
 
-pub so-many-first : (n : ℕ) (conditions : List Condition) → length (firstOf n conditions) ≡ n
+pub so-many-first : {A : Type 0} (other : A) (n : ℕ) (xs : List A) → length (firstOf other n xs) ≡ n
 unfolding firstOf
-so-many-first zero conditions = refl
-so-many-first (suc n) [] = ap suc (so-many-first n [])
-so-many-first (suc n) (c ∷ rest) = ap suc (so-many-first n rest)
+so-many-first other zero xs = refl
+so-many-first other (suc n) [] = ap suc (so-many-first other n [])
+so-many-first other (suc n) (x ∷ rest) = ap suc (so-many-first other n rest)
+
+-- ---- tasks
+
+thrice : (n : ℕ) → 3 * suc n ≡ suc (suc (suc (3 * n)))
+thrice n = omega arith
+
+pub errands-behind : (n : ℕ) (bytes : List ℕ) → drop n (errandsIn bytes) ≡ errandsIn (drop (3 * n) bytes)
+unfolding errandsIn
+errands-behind zero bytes = refl
+errands-behind (suc n) [] = rw (drop-nil (3 * suc n)) refl
+errands-behind (suc n) (v ∷ []) = rw (thrice n, drop-nil n)
+errands-behind (suc n) (v ∷ p ∷ []) = rw (thrice n, drop-nil n)
+errands-behind (suc n) (v ∷ p ∷ q ∷ rest) = rw (thrice n) (errands-behind n rest)
+
+pub first-errands : (n : ℕ) (bytes : List ℕ) → 3 * n ≤ length bytes → firstOf unlentErrand n (errandsIn bytes) ≡ errandsIn (take (3 * n) bytes)
+unfolding errandsIn firstOf
+first-errands zero bytes h = refl
+first-errands (suc n) [] h = absurd (omega arith)
+first-errands (suc n) (v ∷ []) h = absurd (omega arith)
+first-errands (suc n) (v ∷ p ∷ []) h = absurd (omega arith)
+first-errands (suc n) (v ∷ p ∷ q ∷ rest) h = rw (thrice n, first-errands n rest (omega arith))

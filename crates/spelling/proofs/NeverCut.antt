@@ -12,13 +12,13 @@ use lib.ListN.{length, drop, length-append, length-drop}
 use borrow.Author.Tests.{ltb-true}
 use Rattle.plain.specs.Choose.{pick}
 use Rattle.plain.proofs.Tests.{picked}
-use Rattle.study.specs.Study.{Action, Study, always}
-use Rattle.study.specs.Reading.{Said, says, refused, Record, variable, action, condition, task, seed, end, times, present, Draft, blank, allowed, inRange, above, lastAction, fault}
+use Rattle.study.specs.Study.{Action, Roster, Study, always}
+use Rattle.study.specs.Reading.{Said, says, refused, Record, variable, action, condition, task, seed, end, times, present, crew, Draft, blank, allowed, inRange, above, lastAction, fault, faultIn}
 use Rattle.study.specs.Uses.{firstUnused}
 use Rattle.study.specs.Reading.{Verdict, firstRepeat, unrepeated, ended, taken, unless, follow, readOn, reading}
 use Rattle.lawful.specs.Lengths.{bytesOf}
 use Rattle.spelling.specs.Spelling.{kindOf, spelledRecord, spelled}
-use Rattle.spelling.specs.Lists.{Lists, conditionRecord, taskRecord, timesRecord, actionRecords, recordsOf, fileOf}
+use Rattle.spelling.specs.Lists.{Team, Lists, conditionRecord, taskRecord, timesRecord, actionRecords, teamRecords, behind, crewRecords, recordsOf, fileOf}
 use Rattle.spelling.proofs.Spelled.{some-bytes, spelled-length, rest-there, spelled-verdict}
 
 -- ---- the end comes last
@@ -57,18 +57,29 @@ actions-first (x ∷ xs) rs e =
           (perhaps-first (eqb (x .situations) always) (times (x .situations)) (λ h. omega arith) (actionRecords xs ++ rs) (actions-first xs rs e))),
     )
 
+team-first : (k : Team) (rs : List Record) → EndsLast rs → EndsLast (teamRecords k ++ rs)
+team-first k rs e = simp append-assoc (others-first taskRecord (λ t h. omega arith) (k .tasks) (seed (k .seed) ∷ rs) (inl ((λ h. omega arith), e)))
+
+behind-ends-last : (ks : List Team) → EndsLast (behind ks)
+unfolding behind
+behind-ends-last [] = inr (refl, refl)
+behind-ends-last (k ∷ ks) = inl ((λ h. omega arith), team-first k (behind ks) (behind-ends-last ks))
+
+crews-end-last : (ks : List Team) → EndsLast (crewRecords ks)
+unfolding crewRecords
+crews-end-last [] = inr (refl, refl)
+crews-end-last (k ∷ ks) = team-first k (behind ks) (behind-ends-last ks)
+
 lists-end-last : (l : Lists) → EndsLast (recordsOf l)
 unfolding recordsOf
 lists-end-last l =
     perhaps-first (eqb (l .situation) 0) (present (l .situation)) (λ h. omega arith) _
     (others-first variable (λ n h. omega arith) (l .variables) _
-    (actions-first (l .actions) _
-    (others-first taskRecord (λ t h. omega arith) (l .tasks) _
-    (inl ((λ h. omega arith), inr (refl, refl))))))
+    (actions-first (l .actions) _ (crews-end-last (l .crews))))
 
 -- ---- what a record earns
 
-abbrev pub FaultOfLists : Said → Type 0
+abbrev pub FaultOfLists : Said Roster → Type 0
 FaultOfLists (says s) = Unit {0}
 FaultOfLists (refused number place) = ((3 ≤ number) × (number ≤ 7)) ⊎ (number ≡ 21)
 
@@ -95,8 +106,21 @@ faults s (seed n) = one-of (leb 1 n && leb n 2147483646) (λ _ h. omega arith) (
 faults s end = λ h. omega arith
 faults s (times n) = one-of (eqb n always) (λ _ h. omega arith) (λ _ h. omega arith)
 faults s (present n) = one-of (leb n 7) (λ _. one-of (eqb n 0) (λ _ h. omega arith) (λ _ h. omega arith)) (λ _ h. omega arith)
+faults s crew = λ h. omega arith
 
-unless-fault : (n at : ℕ) (v : Verdict) (read : ℕ → Draft → Said) → Fault n → FaultOfLists (follow v read) → FaultOfLists (follow (unless n at v) read)
+faults-in : (d : Draft) (r : Record) → Fault (faultIn d r)
+unfolding faultIn
+faults-in d (variable n) = faults (d .study) (variable n)
+faults-in d (action v p q) = faults (d .study) (action v p q)
+faults-in d (condition v q) = faults (d .study) (condition v q)
+faults-in d (task v p q) = faults (d .study) (task v p q)
+faults-in d (seed n) = faults (d .study) (seed n)
+faults-in d end = faults (d .study) end
+faults-in d (times n) = faults (d .study) (times n)
+faults-in d (present n) = faults (d .study) (present n)
+faults-in d crew = one-of (leb 8 (length (d .crews))) (λ _ h. omega arith) (λ _ h. omega arith)
+
+unless-fault : (n at : ℕ) (v : Verdict) (read : ℕ → Draft → Said Roster) → Fault n → FaultOfLists (follow v read) → FaultOfLists (follow (unless n at v) read)
 unfolding unless
 unless-fault zero at v read h g = g
 unless-fault (suc n) at v read h g = let f = h (omega arith) in inl (omega arith)
@@ -117,7 +141,7 @@ module _ (file : List ℕ) where
   ended-fault-of-lists d next none nothing = unrepeated-fault-of-lists d next (firstUnused (d .study)) nothing
 
   taken-fault-of-lists :
-      (at : ℕ) (d : Draft) (next : ℕ) (read : ℕ → Draft → Said) (r : Record) (rs : List Record) → drop next file ≡ spelled rs → EndsLast (r ∷ rs)
+      (at : ℕ) (d : Draft) (next : ℕ) (read : ℕ → Draft → Said Roster) (r : Record) (rs : List Record) → drop next file ≡ spelled rs → EndsLast (r ∷ rs)
       → (EndsLast rs → (d′ : Draft) → FaultOfLists (read next d′)) → FaultOfLists (follow (taken file at d (kindOf r) next r) read)
   unfolding taken spelled
   taken-fault-of-lists at d next read (variable n) rs here ends on = on (goes-on (variable n) rs (λ h. omega arith) ends) _
@@ -129,6 +153,7 @@ module _ (file : List ℕ) where
       ended-fault-of-lists d next (firstRepeat (d .study)) (rw (none-follows rs ends) at here)
   taken-fault-of-lists at d next read (times n) rs here ends on = on (goes-on (times n) rs (λ h. omega arith) ends) _
   taken-fault-of-lists at d next read (present n) rs here ends on = on (goes-on (present n) rs (λ h. omega arith) ends) _
+  taken-fault-of-lists at d next read crew rs here ends on = on (goes-on crew rs (λ h. omega arith) ends) _
 
   -- a look for each record is enough
   read-on-fault-of-lists :
@@ -140,7 +165,7 @@ module _ (file : List ℕ) where
       let there = rest-there file (spelled rs) at r here in
       rw (spelled-verdict file (spelled rs) at r here d)
       (picked (λ (v : Verdict). FaultOfLists (follow v (readOn n file))) (allowed d (kindOf r))
-      (λ _. unless-fault (fault (d .study) r) at _ (readOn n file) (faults (d .study) r)
+      (λ _. unless-fault (faultIn d r) at _ (readOn n file) (faults-in d r)
       (taken-fault-of-lists at d (at + bytesOf r) (readOn n file) r rs there ends
       (λ e d′. read-on-fault-of-lists rs n (at + bytesOf r) d′ there e (omega arith))))
       (λ _. inl (omega arith)))

@@ -1,4 +1,4 @@
--- Writing what was read gives the same bytes, so a study has one spelling.
+-- Writing what was read gives the same bytes, so a roster has one spelling.
 -- Assumes nothing.
 use mathlib.Core.Path.{_≡_, sym, ap, _∙_}
 use mathlib.Core.List.{List, [], _∷_, _++_}
@@ -10,7 +10,7 @@ use lib.ListN.{length, getD, drop}
 use lib.Seq.{drop-cons}
 use Rattle.records.specs.Records.{bodyLength, bodyLengths}
 use Rattle.records.proofs.Laws.{Lies, there-lies}
-use Rattle.study.specs.Study.{Study}
+use Rattle.study.specs.Study.{Roster}
 use Rattle.study.specs.Reading.{says, seed, decoded, recordFrom, reading}
 use Rattle.spelling.specs.Spelling.{spelledRecord}
 use Rattle.spelling.specs.Lists.{listsOf, fileOf}
@@ -38,7 +38,7 @@ module _ (file : List ℕ) where
   from-4 at h = let e : at + 3 + 1 ≡ at + 4 = omega arith in from-3 at (omega arith) ∙ rw (from-1 (at + 3) (omega arith), e)
 
 -- a number of four bytes is spelled by them
-seed-spelled :
+pub seed-spelled :
     (a b c d : ℕ) → b < 256 → c < 256 → d < 256
     → spelledRecord (seed (((a * 256 + b) * 256 + c) * 256 + d)) ≡ 5 ∷ a ∷ b ∷ c ∷ d ∷ []
 unfolding spelledRecord
@@ -53,7 +53,7 @@ seed-spelled a b c d hb hc hd =
 module _ (file : List ℕ) (bytes : Bytes file) where
   -- a record that is found is spelled there
   found-spelled :
-      (at kind : ℕ) → getD file at 0 ≡ kind → 1 ≤ kind → kind ≤ 8 → at + 1 + bodyLength kind ≤ length file
+      (at kind : ℕ) → getD file at 0 ≡ kind → 1 ≤ kind → kind ≤ 9 → at + 1 + bodyLength kind ≤ length file
       → drop at file ≡ spelledRecord (recordFrom file (at + 1) kind) ++ drop (at + 1 + bodyLength kind) file
   unfolding bodyLength bodyLengths decoded spelledRecord
   found-spelled at zero e low high whole = absurd (omega arith)
@@ -70,7 +70,8 @@ module _ (file : List ℕ) (bytes : Bytes file) where
   found-spelled at (suc (suc (suc (suc (suc (suc zero)))))) e low high whole = rw (from-1 file at (omega arith), e, add-zero (at + 1))
   found-spelled at (suc (suc (suc (suc (suc (suc (suc zero))))))) e low high whole = rw (from-1 file at (omega arith), e, from-1 file (at + 1) whole)
   found-spelled at (suc (suc (suc (suc (suc (suc (suc (suc zero)))))))) e low high whole = rw (from-1 file at (omega arith), e, from-1 file (at + 1) whole)
-  found-spelled at (suc (suc (suc (suc (suc (suc (suc (suc (suc kind))))))))) e low high whole = absurd (omega arith)
+  found-spelled at (suc (suc (suc (suc (suc (suc (suc (suc (suc zero))))))))) e low high whole = rw (from-1 file at (omega arith), e, add-zero (at + 1))
+  found-spelled at (suc (suc (suc (suc (suc (suc (suc (suc (suc (suc kind)))))))))) e low high whole = absurd (omega arith)
 
   spelled-along : SpelledAlong file (λ at. Unit {0})
   spelled-along at on kind start next there = (here, tt)
@@ -82,11 +83,11 @@ module _ (file : List ℕ) (bytes : Bytes file) where
       here = rw (lies .starts, lies .goes-on) (found-spelled at kind (sym (lies .is-kind)) (lies .low) (lies .high) (omega (arith, lies .goes-on, lies .whole)))
 
   -- writing what was read gives the same bytes
-  pub one-spelling : (s : Study) → reading file ≡ says s → fileOf (listsOf s) ≡ file
+  pub one-spelling : (r : Roster) → reading file ≡ says r → fileOf (listsOf r) ≡ file
   one-spelling = rewritten file (λ at. Unit {0}) spelled-along tt
 
--- two files of bytes that load as the same study are the same file
+-- two files of bytes that load as the same roster are the same file
 pub same-study-same-file :
     (file other : List ℕ) → Bytes file → Bytes other
-    → (s : Study) → reading file ≡ says s → reading other ≡ says s → file ≡ other
-same-study-same-file file other bytes bytes′ s e e′ = sym (one-spelling file bytes s e) ∙ one-spelling other bytes′ s e′
+    → (r : Roster) → reading file ≡ says r → reading other ≡ says r → file ≡ other
+same-study-same-file file other bytes bytes′ r e e′ = sym (one-spelling file bytes r e) ∙ one-spelling other bytes′ r e′

@@ -7,8 +7,8 @@ use native.Mathlib.Omega.{arith}
 use lib.ListN.{length, drop, length-drop}
 use Rattle.records.specs.declared.Found.the-variants.{There}
 use Rattle.records.proofs.Laws.{there-lies}
-use Rattle.study.specs.Study.{Study}
-use Rattle.study.specs.Reading.{says, Record, end, Draft, blank, onward, verdictAt, reading}
+use Rattle.study.specs.Study.{Roster}
+use Rattle.study.specs.Reading.{says, Record, end, Draft, rosterOf, blank, onward, verdictAt, reading}
 use Rattle.study.proofs.Readings.{VerdictHas}
 use Rattle.lawful.specs.Lengths.{bytesOf}
 use Rattle.lawful.proofs.Lengths.{Met, blank-met, met-onward}
@@ -16,7 +16,7 @@ use Rattle.spelling.specs.Spelling.{kindOf, spelled}
 use Rattle.spelling.specs.Lists.{Lists, actionRecords, recordsOf, errandsFrom, listsOf, fileOf}
 use Rattle.spelling.proofs.Spelled.{record-there, record-is, rest-there}
 use Rattle.spelling.proofs.Told.{same-records, same-lists}
-use Rattle.spelling.proofs.SoFar.{soFar, all-records}
+use Rattle.spelling.proofs.SoFar.{soFar, joined, opening, all-records}
 use Rattle.spelling.proofs.Rewritten.{spelled-append, RewrittenIfSaid, SpelledAlong, Between, verdict-rewritten, rewritten}
 
 -- what follows a place is records, spelled
@@ -35,11 +35,11 @@ spelled-along file at (r ∷ rs, here) kind start next there =
     let on : drop next file ≡ spelled rs = rw goes-on (rest-there file (spelled rs) at r here) in
     (rw (is-kind, starts, on, record-is file (spelled rs) at r here) here, (rs, on))
 
-pub read-back : (l : Lists) (s : Study) → reading (fileOf l) ≡ says s → listsOf s ≡ l
+pub read-back : (l : Lists) (r : Roster) → reading (fileOf l) ≡ says r → listsOf r ≡ l
 unfolding fileOf
-read-back l s e =
-    same-lists (listsOf s) l
-    (same-records (recordsOf (listsOf s)) (recordsOf l) (rewritten (fileOf l) (Follow (fileOf l)) (spelled-along (fileOf l)) (recordsOf l, refl) s e))
+read-back l r e =
+    same-lists (listsOf r) l
+    (same-records (recordsOf (listsOf r)) (recordsOf l) (rewritten (fileOf l) (Follow (fileOf l)) (spelled-along (fileOf l)) (recordsOf l, refl) r e))
 
 -- ---- halfway through
 
@@ -49,7 +49,7 @@ pub record Retold (file : List ℕ) (at : ℕ) (d : Draft) : Type 0 where
   pub so-far : spelled (soFar d) ++ drop at file ≡ file
 
 pub nothing-retold : (file : List ℕ) → Retold file 0 blank
-unfolding spelled actionRecords errandsFrom
+unfolding spelled actionRecords errandsFrom joined opening
 nothing-retold file = record { met = blank-met; so-far = refl }
 
 -- one record more, where records follow
@@ -66,9 +66,9 @@ retold-onward {file} {at} {next} {d} {d′} rs here r e = record {
 
 -- where only the end is left, the lists have been read
 pub all-retold :
-    (l : Lists) {at : ℕ} {d : Draft} → Retold (fileOf l) at d → drop at (fileOf l) ≡ spelled (end ∷ []) → d .last ≡ 5 → listsOf (d .study) ≡ l
+    (l : Lists) {at : ℕ} {d : Draft} → Retold (fileOf l) at d → drop at (fileOf l) ≡ spelled (end ∷ []) → d .last ≡ 5 → listsOf (rosterOf d) ≡ l
 unfolding fileOf
 all-retold l {at} {d} r here last =
-    same-lists (listsOf (d .study)) l
-    (same-records (recordsOf (listsOf (d .study))) (recordsOf l)
+    same-lists (listsOf (rosterOf d)) l
+    (same-records (recordsOf (listsOf (rosterOf d))) (recordsOf l)
     (rw (← all-records d last, spelled-append (soFar d) (end ∷ []), ← here) (r .so-far)))

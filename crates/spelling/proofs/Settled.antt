@@ -10,6 +10,7 @@ use Rattle.plain.specs.Choose.{pick}
 use Rattle.answer.specs.declared.Answer.{Answer}
 use Rattle.answer.specs.Answers.{done, refusal}
 use Rattle.answer.specs.Allowing.{Allowing, Exactly, Settles, Answers, RefusalAltersNothing}
+use Rattle.study.specs.Study.{Roster}
 use Rattle.study.specs.Reading.{Said, says, refused, reading}
 use Rattle.spelling.specs.Lists.{fileOf}
 use Rattle.spelling.specs.Lent.{lent}
@@ -34,24 +35,24 @@ module _ (before : List ℕ) where
   by-test true a b = a
   by-test false a b = b
 
-  writes : (said : Said) (file : List ℕ) → Asked before (Writes said file before)
+  writes : (said : Said Roster) (file : List ℕ) → Asked before (Writes said file before)
   writes (refused number place) file = exactly (refusal number place) before (λ _. refl)
-  writes (says study) file =
+  writes (says roster) file =
       by-test (leb (length file) (length before))
       (exactly (done (length file) 0) (file ++ drop (length file) before) (λ h. absurd (h refl)))
       (exactly (refusal 13 (length file)) before (λ _. refl))
 
-module _ (situation : ℕ) (variables actions conditions tasks : List ℕ) (seed : ℕ) (before : List ℕ) where
-  asked : Asked before (WriteAllows situation variables actions conditions tasks seed before)
+module _ (situation : ℕ) (variables actions conditions crews tasks : List ℕ) (before : List ℕ) where
+  asked : Asked before (WriteAllows situation variables actions conditions crews tasks before)
   asked =
-      let file = fileOf (lent situation variables actions conditions tasks seed) in
+      let file = fileOf (lent situation variables actions conditions crews tasks) in
       writes before (reading file) file
 
-  pub write-settles : Settles (WriteAllows situation variables actions conditions tasks seed before)
+  pub write-settles : Settles (WriteAllows situation variables actions conditions crews tasks before)
   write-settles = asked .settles
 
-  pub write-answers : Answers (WriteAllows situation variables actions conditions tasks seed before)
+  pub write-answers : Answers (WriteAllows situation variables actions conditions crews tasks before)
   write-answers = asked .answers
 
-  pub write-unaltered : RefusalAltersNothing (WriteAllows situation variables actions conditions tasks seed before) before
+  pub write-unaltered : RefusalAltersNothing (WriteAllows situation variables actions conditions crews tasks before) before
   write-unaltered = asked .unaltered

@@ -9,30 +9,80 @@ use lib.Dec.{eqb}
 use lib.ListN.{length, set}
 use borrow.Author.Tests.{ne-eqb}
 use Rattle.plain.specs.Choose.{pick}
-use Rattle.study.specs.Study.{Action, Task, always, actionAt}
-use Rattle.study.specs.Reading.{Record, variable, action, condition, task, seed, end, times, present, Draft, tasksLeft, lastAction, withCondition, within, withActions, with, drafted}
+use Rattle.study.specs.Study.{Action, Task, Crew, always, actionAt}
+use Rattle.study.specs.Reading.{Record, variable, action, condition, task, seed, end, times, present, crew, Draft, tasksLeft, lastAction, withCondition, within, withActions, with, manned, drafted, rosterOf}
 use Rattle.lawful.proofs.Order.{stage, stage-same, Follows}
-use Rattle.lawful.proofs.Faults.{Faultless}
+use Rattle.lawful.proofs.Faults.{FaultlessIn}
 use Rattle.lawful.proofs.Sound.{Sound}
-use Rattle.spelling.specs.Lists.{taskRecord, timesRecord, presentRecord, actionRecords, recordsOf, errandsFrom, listsOf}
+use Rattle.spelling.specs.Lists.{Team, taskRecord, timesRecord, presentRecord, actionRecords, teamRecords, behind, crewRecords, recordsOf, errandsFrom, teamOf, listsOf}
 
--- the seed, once it has been read
-abbrev seedSoFar : ℕ → ℕ → List Record
-seedSoFar last n = pick (eqb last 5) (seed n ∷ []) []
+-- crews behind one, each with its opening
+unfoldable pub opened : List Team → List Record
+opened [] = []
+opened (k ∷ rest) = crew ∷ (teamRecords k ++ opened rest)
+
+-- crews one after another, as far as the seed of the last
+unfoldable pub joined : List Team → List Record
+joined [] = []
+joined (k ∷ rest) = teamRecords k ++ opened rest
+
+-- what opens a crew behind these
+unfoldable pub opening : List Team → List Record
+opening [] = []
+opening (k ∷ rest) = crew ∷ []
+
+-- the crew whose seed has not been read
+abbrev halfway : ℕ → List Team → List Task → List Record
+halfway last teams tasks = pick (eqb last 5) [] (opening teams ++ map taskRecord (errandsFrom 0 tasks))
+
+abbrev crewsSoFar : ℕ → List Team → List Task → List Record
+crewsSoFar last teams tasks = joined teams ++ halfway last teams tasks
 
 abbrev pub soFar : Draft → List Record
 soFar d =
     presentRecord (d .study .situation)
     ++ (map variable (d .study .counts)
-    ++ (actionRecords (d .study .actions) ++ (map taskRecord (errandsFrom 0 (d .study .tasks)) ++ seedSoFar (d .last) (d .study .seed))))
+    ++ (actionRecords (d .study .actions) ++ crewsSoFar (d .last) (map teamOf (d .crews)) (d .study .tasks)))
 
 -- ---- the parts, with one more
 
-no-seed : (last n : ℕ) → stage last ≤ 4 → seedSoFar last n ≡ []
-no-seed last n h = rw (ne-eqb last 5 (λ e. omega (arith, ap stage e)))
+before-seed :
+    (last : ℕ) (teams : List Team) (tasks : List Task) → stage last ≤ 4 → halfway last teams tasks ≡ opening teams ++ map taskRecord (errandsFrom 0 tasks)
+before-seed last teams tasks h = rw (ne-eqb last 5 (λ e. omega (arith, ap stage e)))
 
-with-seed : (last n : ℕ) → last ≡ 5 → seedSoFar last n ≡ seed n ∷ []
-with-seed last n e = rw e
+behind-seed : (last : ℕ) (teams : List Team) (tasks : List Task) → last ≡ 5 → halfway last teams tasks ≡ []
+behind-seed last teams tasks e = rw e
+
+no-crew-yet : (last : ℕ) {crews : List Crew} {tasks : List Task} → stage last ≤ 4 → crews ≡ [] → tasks ≡ [] → crewsSoFar last (map teamOf crews) tasks ≡ []
+unfolding joined opening errandsFrom
+no-crew-yet last {crews} {tasks} h none idle = rw (none, idle) (before-seed last [] [] h)
+
+-- one crew more, behind crews whose last seed has been read
+opened-more : (ks : List Team) (k : Team) → opened (ks ++ (k ∷ [])) ≡ opened ks ++ (crew ∷ teamRecords k)
+unfolding opened
+opened-more [] k = simp append-nil
+opened-more (j ∷ ks) k = simp (opened-more ks k, append-assoc)
+
+joined-more : (ks : List Team) (k : Team) → joined (ks ++ (k ∷ [])) ≡ joined ks ++ (opening ks ++ teamRecords k)
+unfolding joined opening opened
+joined-more [] k = simp append-nil
+joined-more (j ∷ ks) k = simp (opened-more ks k, append-assoc)
+
+opens : (crews : List Crew) → 1 ≤ length crews → opening (map teamOf crews) ≡ crew ∷ []
+unfolding opening
+opens [] h = absurd (omega arith)
+opens (k ∷ rest) h = refl
+
+-- with the end they are all the crews' records
+opened-end : (ks : List Team) → opened ks ++ (end ∷ []) ≡ behind ks
+unfolding opened behind
+opened-end [] = refl
+opened-end (k ∷ ks) = simp (append-assoc, opened-end ks)
+
+joined-end : (ks : List Team) → joined ks ++ (end ∷ []) ≡ crewRecords ks
+unfolding joined crewRecords
+joined-end [] = refl
+joined-end (k ∷ ks) = simp (append-assoc, opened-end ks)
 
 times-written : (n : ℕ) → n ≢ always → timesRecord n ≡ times n ∷ []
 times-written n differ = rw (ne-eqb n always differ)
@@ -74,6 +124,29 @@ unfolding errandsFrom
 errands-more v w [] t e = let f : v ≡ w = omega arith in rw f
 errands-more v w (u ∷ rest) t e = rw (errands-more (suc v) w rest t (omega arith))
 
+-- ---- a crew with one record more
+
+task-so-far :
+    (kind last v : ℕ) (teams : List Team) (tasks : List Task) (t : Task) → stage kind ≤ 4 → stage last ≤ 4 → v ≡ length tasks
+    → crewsSoFar kind teams (tasks ++ (t ∷ [])) ≡ crewsSoFar last teams tasks ++ (task v (t .start) (t .goal) ∷ [])
+task-so-far kind last v teams tasks t k l e =
+    rw (before-seed kind teams (tasks ++ (t ∷ [])) k, before-seed last teams tasks l, errands-more 0 v tasks t (omega arith))
+    (simp (map-append, append-assoc))
+
+seed-so-far :
+    (kind last : ℕ) (crews : List Crew) (k : Crew) → kind ≡ 5 → stage last ≤ 4
+    → crewsSoFar kind (map teamOf (crews ++ (k ∷ []))) (k .tasks) ≡ crewsSoFar last (map teamOf crews) (k .tasks) ++ (seed (k .seed) ∷ [])
+seed-so-far kind last crews k is l =
+    rw (behind-seed kind (map teamOf (crews ++ (k ∷ []))) (k .tasks) is, before-seed last (map teamOf crews) (k .tasks) l)
+    (simp (append-nil, map-append, joined-more, append-assoc))
+
+crew-so-far :
+    (kind last : ℕ) (crews : List Crew) (tasks : List Task) → stage kind ≤ 4 → last ≡ 5 → 1 ≤ length crews
+    → crewsSoFar kind (map teamOf crews) [] ≡ crewsSoFar last (map teamOf crews) tasks ++ (crew ∷ [])
+unfolding errandsFrom
+crew-so-far kind last crews tasks k is some =
+    rw (behind-seed last (map teamOf crews) tasks is, before-seed kind (map teamOf crews) [] k, opens crews some) (simp append-nil)
+
 -- ---- one record more, that is not the end
 
 module _ {d : Draft} (sound : Sound d) (at kind : ℕ) where
@@ -81,28 +154,26 @@ module _ {d : Draft} (sound : Sound d) (at kind : ℕ) where
   More r = soFar (drafted d at kind r) ≡ soFar d ++ (r ∷ [])
 
   abbrev IsMore : Record → Type 0
-  IsMore r = Follows (tasksLeft (d .study)) (d .last) kind r → Faultless (d .study) r → More r
+  IsMore r = Follows (tasksLeft (d .study)) (d .last) kind r → FaultlessIn d r → More r
 
   pub variable-more : (n : ℕ) → IsMore (variable n)
-  unfolding with actionRecords errandsFrom
+  unfolding with manned actionRecords
   variable-more n (is, early) ok =
       simp (
         sound .no-actions early,
-        sound .no-tasks (omega arith),
-        no-seed (d .last) (d .study .seed) (omega arith),
-        no-seed kind (d .study .seed) (omega (arith, ap stage is)),
+        no-crew-yet (d .last) (omega arith) (sound .no-crews (omega arith)) (sound .no-tasks (omega arith)),
+        no-crew-yet kind (omega (arith, ap stage is)) (sound .no-crews (omega arith)) (sound .no-tasks (omega arith)),
         map-append,
         append-assoc,
         append-nil,
       )
 
   pub action-more : (v p q : ℕ) → IsMore (action v p q)
-  unfolding with actionRecords errandsFrom
+  unfolding with manned actionRecords
   action-more v p q (is, low, high) ok =
       simp (
-        sound .no-tasks high,
-        no-seed (d .last) (d .study .seed) (omega arith),
-        no-seed kind (d .study .seed) (omega (arith, ap stage is)),
+        no-crew-yet (d .last) (omega arith) (sound .no-crews high) (sound .no-tasks high),
+        no-crew-yet kind (omega (arith, ap stage is)) (sound .no-crews high) (sound .no-tasks high),
         actions-more,
         append-assoc,
         append-nil,
@@ -112,58 +183,70 @@ module _ {d : Draft} (sound : Sound d) (at kind : ℕ) where
   newest-so-far :
       2 ≤ d .last → d .last ≤ 3 → stage kind ≤ 4 → (f : Action → Action) (r : Record)
       → ((a : Action) → a .situations ≡ always → actionRecords (f a ∷ []) ≡ actionRecords (a ∷ []) ++ (r ∷ []))
-      → soFar (record { study = withActions (d .study) (set (d .study .actions) (length (d .study .actions) - 1) (f (lastAction (d .study)))); last = kind; places = d .places })
+      → soFar (record {
+        study = withActions (d .study) (set (d .study .actions) (length (d .study .actions) - 1) (f (lastAction (d .study))));
+        crews = d .crews;
+        last = kind;
+        places = d .places;
+      })
       ≡ soFar d ++ (r ∷ [])
-  unfolding errandsFrom
   newest-so-far low high unseeded f r behind =
       let few : stage (d .last) ≤ 3 = omega (arith, stage-same (d .last) (omega arith)) in
       simp (
-        sound .no-tasks few,
-        no-seed (d .last) (d .study .seed) (omega arith),
-        no-seed kind (d .study .seed) unseeded,
+        no-crew-yet (d .last) (omega arith) (sound .no-crews few) (sound .no-tasks few),
+        no-crew-yet kind unseeded (sound .no-crews few) (sound .no-tasks few),
         newest-more (d .study .actions) (length (d .study .actions) - 1) f r (omega (arith, sound .some-action low high)) (sound .still-always low high) behind,
         append-assoc,
         append-nil,
       )
 
   pub condition-more : (v q : ℕ) → IsMore (condition v q)
-  unfolding with
+  unfolding with manned
   condition-more v q (is, low, high) ok =
       newest-so-far low high (omega (arith, ap stage is)) (λ a. withCondition a v q) (condition v q) (condition-behind v q)
 
   pub times-more : (n : ℕ) → IsMore (times n)
-  unfolding with
+  unfolding with manned
   times-more n (is, low, high) differ = newest-so-far low high (omega (arith, ap stage is)) (λ a. within a n) (times n) (times-behind n differ)
 
+  -- one more of a crew's own
+  of-a-crew :
+      (r : Record) (crews : List Crew) (tasks : List Task)
+      → crewsSoFar kind (map teamOf crews) tasks ≡ crewsSoFar (d .last) (map teamOf (d .crews)) (d .study .tasks) ++ (r ∷ [])
+      → presentRecord (d .study .situation)
+      ++ (map variable (d .study .counts) ++ (actionRecords (d .study .actions) ++ crewsSoFar kind (map teamOf crews) tasks))
+      ≡ soFar d ++ (r ∷ [])
+  of-a-crew r crews tasks e = rw e (simp append-assoc)
+
   pub task-more : (v p q : ℕ) → IsMore (task v p q)
-  unfolding with
+  unfolding with manned
   task-more v p q (is, low, high, left) (next, has-start, has-goal) =
-      simp (
-        no-seed (d .last) (d .study .seed) high,
-        no-seed kind (d .study .seed) (omega (arith, ap stage is)),
-        errands-more 0 v (d .study .tasks) (record { start = p; goal = q }) (omega arith),
-        map-append,
-        append-assoc,
-        append-nil,
-      )
+      of-a-crew (task v p q) (d .crews) (d .study .tasks ++ (record { start = p; goal = q } ∷ []))
+      (task-so-far kind (d .last) v (map teamOf (d .crews)) (d .study .tasks) (record { start = p; goal = q }) (omega (arith, ap stage is)) high (omega arith))
 
   pub seed-more : (n : ℕ) → IsMore (seed n)
-  unfolding with
+  unfolding with manned
   seed-more n (is, last, left) ok =
-      simp (no-seed (d .last) (d .study .seed) (omega (arith, ap stage last)), with-seed kind n is, append-assoc, append-nil)
+      of-a-crew (seed n) (d .crews ++ (record { tasks = d .study .tasks; seed = n } ∷ [])) (d .study .tasks)
+      (seed-so-far kind (d .last) (d .crews) (record { tasks = d .study .tasks; seed = n }) is (omega (arith, ap stage last)))
+
+  pub crew-more : IsMore crew
+  unfolding with manned
+  crew-more (is, last) few =
+      of-a-crew crew (d .crews) []
+      (crew-so-far kind (d .last) (d .crews) (d .study .tasks) (omega (arith, ap stage is)) last (sound .some-crew last))
 
   -- before any other
   pub present-more : (n : ℕ) → IsMore (present n)
-  unfolding with actionRecords errandsFrom
+  unfolding with manned actionRecords
   present-more n (is, start) (few, differ) =
-      simp (
-        sound .nothing-yet start,
-        no-seed (d .last) 0 (omega (arith, ap stage start)),
-        no-seed kind 0 (omega (arith, ap stage is)),
-        present-written n differ,
-      )
+      let early : stage (d .last) ≤ 3 = omega (arith, ap stage start) in
+      let none = sound .no-crews early in
+      let idle = sound .no-tasks early in
+      let nothing = sound .nothing-yet start in
+      rw (present-written n differ, no-crew-yet kind (omega (arith, ap stage is)) none idle, no-crew-yet (d .last) (omega arith) none idle) (simp nothing)
 
 -- with the end they are all the records
-pub all-records : (d : Draft) → d .last ≡ 5 → soFar d ++ (end ∷ []) ≡ recordsOf (listsOf (d .study))
+pub all-records : (d : Draft) → d .last ≡ 5 → soFar d ++ (end ∷ []) ≡ recordsOf (listsOf (rosterOf d))
 unfolding recordsOf
-all-records d last = simp (with-seed (d .last) (d .study .seed) last, append-assoc)
+all-records d last = simp (behind-seed (d .last) (map teamOf (d .crews)) (d .study .tasks) last, append-assoc, append-nil, joined-end)

@@ -11,8 +11,8 @@ use Rattle.plain.specs.Choose.{pick}
 use Rattle.records.specs.Records.{bodyLength, bodyLengths, bodied, recordAt}
 use Rattle.records.specs.declared.Found.the-variants.{There}
 use Rattle.records.proofs.Laws.{record-of-kind}
-use Rattle.study.specs.Reading.{Record, variable, action, condition, task, seed, end, times, present, decoded, recordFrom, refused}
-use Rattle.study.specs.Reading.{Draft, allowed, fault, settled, taken, unless, judged, verdictAt}
+use Rattle.study.specs.Reading.{Record, variable, action, condition, task, seed, end, times, present, crew, decoded, recordFrom, refused}
+use Rattle.study.specs.Reading.{Draft, allowed, faultIn, settled, taken, unless, judged, verdictAt}
 use Rattle.study.proofs.Verdicts.{verdict-by}
 use Rattle.lawful.specs.Lengths.{bytesOf}
 use Rattle.spelling.specs.Spelling.{kindOf, spelledRecord}
@@ -27,6 +27,7 @@ spelled-length (seed n) = refl
 spelled-length end = refl
 spelled-length (times n) = refl
 spelled-length (present n) = refl
+spelled-length crew = refl
 
 -- its kind comes first
 spelled-kind : (r : Record) (rest : List ℕ) → getD (spelledRecord r ++ rest) 0 0 ≡ kindOf r
@@ -39,10 +40,11 @@ spelled-kind (seed n) rest = refl
 spelled-kind end rest = refl
 spelled-kind (times n) rest = refl
 spelled-kind (present n) rest = refl
+spelled-kind crew rest = refl
 
 record Kind (r : Record) : Type 0 where
   low : 1 ≤ kindOf r
-  high : kindOf r ≤ 8
+  high : kindOf r ≤ 9
   bytes : 1 + bodyLength (kindOf r) ≡ bytesOf r
 
 kind-of : (r : Record) → Kind r
@@ -55,6 +57,7 @@ kind-of (seed n) = record { low = omega arith; high = omega arith; bytes = refl 
 kind-of end = record { low = omega arith; high = omega arith; bytes = refl }
 kind-of (times n) = record { low = omega arith; high = omega arith; bytes = refl }
 kind-of (present n) = record { low = omega arith; high = omega arith; bytes = refl }
+kind-of crew = record { low = omega arith; high = omega arith; bytes = refl }
 
 pub some-bytes : (r : Record) → 1 ≤ bytesOf r
 some-bytes r = omega (arith, kind-of r .bytes)
@@ -76,6 +79,7 @@ spelled-decoded (seed n) rest = ap seed (four-bytes n)
 spelled-decoded end rest = refl
 spelled-decoded (times n) rest = refl
 spelled-decoded (present n) rest = refl
+spelled-decoded crew rest = refl
 
 module _ (file rest : List ℕ) (at : ℕ) (r : Record) (here : drop at file ≡ spelledRecord r ++ rest) where
   pub rest-inside : at + bytesOf r ≤ length file
@@ -106,6 +110,6 @@ module _ (file rest : List ℕ) (at : ℕ) (r : Record) (here : drop at file ≡
   pub spelled-verdict :
       (d : Draft)
       → verdictAt file at d
-      ≡ pick (allowed d (kindOf r)) (unless (fault (d .study) r) at (taken file at d (kindOf r) (at + bytesOf r) r)) (settled (refused 3 at))
+      ≡ pick (allowed d (kindOf r)) (unless (faultIn d r) at (taken file at d (kindOf r) (at + bytesOf r) r)) (settled (refused 3 at))
   unfolding judged
   spelled-verdict d = verdict-by file at d record-there ∙ rw record-is

@@ -13,10 +13,10 @@ use Rattle.plain.specs.Choose.{pick}
 use Rattle.plain.proofs.Tests.{picked}
 use Rattle.records.specs.declared.Found.the-variants.{There}
 use Rattle.study.specs.Study.{Condition, Action, always}
-use Rattle.study.specs.Reading.{Record, variable, seed, end, times, present, recordFrom}
+use Rattle.study.specs.Reading.{Record, variable, seed, times, present, recordFrom}
 use Rattle.lawful.specs.Lengths.{bytesOf}
 use Rattle.spelling.specs.Spelling.{kindOf, spelled}
-use Rattle.spelling.specs.Lists.{Errand, Lists, conditionRecord, taskRecord, timesRecord, actionRecords, recordsOf}
+use Rattle.spelling.specs.Lists.{Errand, Team, Lists, conditionRecord, taskRecord, timesRecord, actionRecords, teamRecords, behind, crewRecords, recordsOf}
 use Rattle.spelling.proofs.Spelled.{some-bytes, record-there, record-is, rest-there, rest-inside}
 
 -- ---- bytes
@@ -89,21 +89,62 @@ module _ (f : ℕ → Record) (kind unwritten : ℕ) (is : (n : ℕ) → kindOf 
           let tail : rs ≡ ts = cc in
           (same m n head, tail)
 
--- what comes behind the tasks is no task, behind the actions none of theirs, behind an action's conditions no condition, behind the situation no situation
-record BehindTasks (rs : List Record) : Type 0 where
+-- a team's tasks end where its seed comes, and others stand behind it
+same-team :
+    (k j : Team) (rs ts : List Record) → teamRecords k ++ rs ≡ teamRecords j ++ ts → (k ≡ j) × (rs ≡ ts)
+same-team k j rs ts e =
+    let (tasks, on) =
+    same-run taskRecord 4 (λ t. refl) same-errand (k .tasks) (j .tasks) (seed (k .seed) ∷ rs) (seed (j .seed) ∷ ts)
+    (λ h. omega arith) (λ h. omega arith) (simp append-assoc at e) in
+    let number : k .seed ≡ j .seed = cc in
+    let rest : rs ≡ ts = cc in
+    ((λ i. record { tasks = tasks i; seed = number i }), rest)
+
+-- the first record of a team is a task or its seed
+starts-team : (k : Team) (rs : List Record) → (4 ≤ first (teamRecords k ++ rs)) × (first (teamRecords k ++ rs) ≤ 5)
+starts-team k rs = from (k .tasks)
+  where
+    from : (ts : List Errand) → (4 ≤ first ((map taskRecord ts ++ (seed (k .seed) ∷ [])) ++ rs)) × (first ((map taskRecord ts ++ (seed (k .seed) ∷ [])) ++ rs) ≤ 5)
+    from [] = omega arith
+    from (t ∷ ts) = omega arith
+
+same-behind : (ks js : List Team) → behind ks ≡ behind js → ks ≡ js
+unfolding behind
+same-behind [] [] e = refl
+same-behind [] (j ∷ js) e = absurd (omega (arith, ap first e))
+same-behind (k ∷ ks) [] e = absurd (omega (arith, ap first e))
+same-behind (k ∷ ks) (j ∷ js) e =
+    let on : teamRecords k ++ behind ks ≡ teamRecords j ++ behind js = cc in
+    let (one, rest) = same-team k j (behind ks) (behind js) on in
+    rw (one, same-behind ks js rest)
+
+same-crews : (ks js : List Team) → crewRecords ks ≡ crewRecords js → ks ≡ js
+unfolding crewRecords
+same-crews [] [] e = refl
+same-crews [] (j ∷ js) e = absurd (omega (arith, ap first e, starts-team j (behind js) .1))
+same-crews (k ∷ ks) [] e = absurd (omega (arith, ap first e, starts-team k (behind ks) .1))
+same-crews (k ∷ ks) (j ∷ js) e =
+    let (one, rest) = same-team k j (behind ks) (behind js) e in
+    rw (one, same-behind ks js rest)
+
+-- what comes behind the actions is none of theirs, behind an action's conditions no condition, behind the situation no situation
+record BehindActions (rs : List Record) : Type 0 where
   low : 4 ≤ first rs
-  high : first rs ≤ 5
+  high : first rs ≤ 6
 
 record BehindAction (rs : List Record) : Type 0 where
   low : 2 ≤ first rs
-  high : first rs ≤ 5
+  high : first rs ≤ 6
   no-condition : first rs ≢ 3
 
-behind-tasks : (ts : List Errand) (n : ℕ) → BehindTasks (map taskRecord ts ++ (seed n ∷ end ∷ []))
-behind-tasks [] n = record { low = omega arith; high = omega arith }
-behind-tasks (t ∷ ts) n = record { low = omega arith; high = omega arith }
+crews-behind : (ks : List Team) → BehindActions (crewRecords ks)
+unfolding crewRecords
+crews-behind [] = record { low = omega arith; high = omega arith }
+crews-behind (k ∷ ks) =
+    let s = starts-team k (behind ks) in
+    record { low = s .0; high = omega (arith, s .1) }
 
-behind-action : (xs : List Action) {rs : List Record} → BehindTasks rs → BehindAction (actionRecords xs ++ rs)
+behind-action : (xs : List Action) {rs : List Record} → BehindActions rs → BehindAction (actionRecords xs ++ rs)
 unfolding actionRecords
 behind-action [] h = record { low = omega (arith, h .low); high = h .high; no-condition = λ e. omega (arith, h .low) }
 behind-action (x ∷ xs) h = record { low = omega arith; high = omega arith; no-condition = λ e. omega arith }
@@ -116,7 +157,7 @@ behind-situation [] h = λ e. omega (arith, h .high)
 behind-situation (n ∷ ns) h = λ e. omega arith
 
 same-actions :
-    (xs ys : List Action) (rs ts : List Record) → BehindTasks rs → BehindTasks ts
+    (xs ys : List Action) (rs ts : List Record) → BehindActions rs → BehindActions ts
     → actionRecords xs ++ rs ≡ actionRecords ys ++ ts → (xs ≡ ys) × (rs ≡ ts)
 unfolding actionRecords
 same-actions [] [] rs ts h g e = (refl, e)
@@ -141,8 +182,8 @@ same-actions (x ∷ xs) (y ∷ ys) rs ts h g e =
 pub same-lists : (l m : Lists) → recordsOf l ≡ recordsOf m → l ≡ m
 unfolding recordsOf
 same-lists l m e =
-    let l-behind = behind-action (l .actions) (behind-tasks (l .tasks) (l .seed)) in
-    let m-behind = behind-action (m .actions) (behind-tasks (m .tasks) (m .seed)) in
+    let l-behind = behind-action (l .actions) (crews-behind (l .crews)) in
+    let m-behind = behind-action (m .actions) (crews-behind (m .crews)) in
     let (situation, on) =
     same-written present 8 0 (λ n. refl) (λ m n h. cc) (l .situation) (m .situation) _ _
     (behind-situation (l .variables) l-behind) (behind-situation (m .variables) m-behind) e in
@@ -150,8 +191,6 @@ same-lists l m e =
     same-run variable 1 (λ n. refl) (λ x y h. cc) (l .variables) (m .variables) _ _
     (λ e. omega (arith, l-behind .low)) (λ e. omega (arith, m-behind .low)) on in
     let (actions, on″) =
-    same-actions (l .actions) (m .actions) _ _ (behind-tasks (l .tasks) (l .seed)) (behind-tasks (m .tasks) (m .seed)) on′ in
-    let (tasks, on‴) =
-    same-run taskRecord 4 (λ t. refl) same-errand (l .tasks) (m .tasks) _ _ (λ e. omega arith) (λ e. omega arith) on″ in
-    let number : l .seed ≡ m .seed = cc in
-    λ i. record { situation = situation i; variables = variables i; actions = actions i; tasks = tasks i; seed = number i }
+    same-actions (l .actions) (m .actions) _ _ (crews-behind (l .crews)) (crews-behind (m .crews)) on′ in
+    let crews : l .crews ≡ m .crews = same-crews (l .crews) (m .crews) on″ in
+    λ i. record { situation = situation i; variables = variables i; actions = actions i; crews = crews i }

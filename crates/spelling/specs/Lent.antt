@@ -1,10 +1,10 @@
--- The lists that lent bytes stand for: a byte for each variable; five for each action, the fourth its situations, the last how many conditions it takes; two for each condition; three for each task. No input stands for none: an entry that is cut short, and a condition that is announced and not lent, has 255 for each of its numbers; conditions that no action takes are those of one more action, whose numbers are 255. No record with such a number is allowed, so a slip shows as a refusal.
+-- The lists that lent bytes stand for: a byte for each variable; five for each action, the fourth its situations, the last how many conditions it takes; two for each condition; five for each crew, how many tasks it takes and then its seed, most significant first; three for each task. No input stands for none: an entry that is cut short, and a condition or a task that is announced and not lent, has 255 for each of its bytes; conditions that no action takes are those of one more action, whose numbers are 255, and tasks that no crew takes are those of one more crew, each byte of whose seed is 255. No record with such a number is allowed, so a slip shows as a refusal.
 -- Assumes nothing.
-use Prim.Native.Nat.{ℕ, zero, suc, _+_}
+use Prim.Native.Nat.{ℕ, zero, suc, _+_, _*_}
 use mathlib.Core.List.{List, [], _∷_}
 use lib.ListN.{drop}
 use Rattle.study.specs.Study.{Condition, Action, always}
-use Rattle.spelling.specs.Lists.{Errand, Lists}
+use Rattle.spelling.specs.Lists.{Errand, Team, Lists}
 
 -- what stands for a number that is not lent
 abbrev pub unlent : ℕ
@@ -20,16 +20,24 @@ unlentErrand = record { var = unlent; start = unlent; goal = unlent }
 abbrev pub unlentAction : List Condition → Action
 unlentAction conditions = record { var = unlent; pre = unlent; post = unlent; conditions = conditions; situations = always }
 
+-- four bytes, most significant first
+abbrev pub number : ℕ → ℕ → ℕ → ℕ → ℕ
+number a b c d = ((a * 256 + b) * 256 + c) * 256 + d
+
+-- a crew that is not lent whole takes all the tasks that are left
+abbrev pub unlentTeam : List Errand → Team
+unlentTeam tasks = record { tasks = tasks; seed = number unlent unlent unlent unlent }
+
 unfoldable pub conditionsIn : List ℕ → List Condition
 conditionsIn [] = []
 conditionsIn (v ∷ []) = unlentCondition ∷ []
 conditionsIn (v ∷ q ∷ rest) = record { var = v; value = q } ∷ conditionsIn rest
 
 -- the first n of them, and for those that are not lent what stands for them
-unfoldable pub firstOf : ℕ → List Condition → List Condition
-firstOf zero conditions = []
-firstOf (suc n) [] = unlentCondition ∷ firstOf n []
-firstOf (suc n) (c ∷ rest) = c ∷ firstOf n rest
+unfoldable pub firstOf : {A : Type 0} → A → ℕ → List A → List A
+firstOf other zero xs = []
+firstOf other (suc n) [] = other ∷ firstOf other n []
+firstOf other (suc n) (x ∷ rest) = x ∷ firstOf other n rest
 
 -- conditions with no action left to take them
 unfoldable pub left : List Condition → List Action
@@ -43,7 +51,7 @@ actionsIn (v ∷ p ∷ []) conditions = unlentAction conditions ∷ []
 actionsIn (v ∷ p ∷ q ∷ []) conditions = unlentAction conditions ∷ []
 actionsIn (v ∷ p ∷ q ∷ s ∷ []) conditions = unlentAction conditions ∷ []
 actionsIn (v ∷ p ∷ q ∷ s ∷ n ∷ rest) conditions =
-    record { var = v; pre = p; post = q; conditions = firstOf n conditions; situations = s } ∷ actionsIn rest (drop n conditions)
+    record { var = v; pre = p; post = q; conditions = firstOf unlentCondition n conditions; situations = s } ∷ actionsIn rest (drop n conditions)
 
 -- how many conditions the actions take
 unfoldable pub announced : List ℕ → ℕ
@@ -60,6 +68,34 @@ errandsIn (v ∷ []) = unlentErrand ∷ []
 errandsIn (v ∷ p ∷ []) = unlentErrand ∷ []
 errandsIn (v ∷ p ∷ q ∷ rest) = record { var = v; start = p; goal = q } ∷ errandsIn rest
 
-abbrev pub lent : ℕ → (variables actions conditions tasks : List ℕ) → ℕ → Lists
-lent situation variables actions conditions tasks seed =
-    record { situation = situation; variables = variables; actions = actionsIn actions (conditionsIn conditions); tasks = errandsIn tasks; seed = seed }
+-- tasks with no crew left to take them
+unfoldable pub untaken : List Errand → List Team
+untaken [] = []
+untaken (t ∷ rest) = unlentTeam (t ∷ rest) ∷ []
+
+unfoldable pub crewsIn : List ℕ → List Errand → List Team
+crewsIn [] tasks = untaken tasks
+crewsIn (n ∷ []) tasks = unlentTeam tasks ∷ []
+crewsIn (n ∷ a ∷ []) tasks = unlentTeam tasks ∷ []
+crewsIn (n ∷ a ∷ b ∷ []) tasks = unlentTeam tasks ∷ []
+crewsIn (n ∷ a ∷ b ∷ c ∷ []) tasks = unlentTeam tasks ∷ []
+crewsIn (n ∷ a ∷ b ∷ c ∷ d ∷ rest) tasks =
+    record { tasks = firstOf unlentErrand n tasks; seed = number a b c d } ∷ crewsIn rest (drop n tasks)
+
+-- how many tasks the crews take
+unfoldable pub tasksAnnounced : List ℕ → ℕ
+tasksAnnounced [] = 0
+tasksAnnounced (n ∷ []) = 0
+tasksAnnounced (n ∷ a ∷ []) = 0
+tasksAnnounced (n ∷ a ∷ b ∷ []) = 0
+tasksAnnounced (n ∷ a ∷ b ∷ c ∷ []) = 0
+tasksAnnounced (n ∷ a ∷ b ∷ c ∷ d ∷ rest) = n + tasksAnnounced rest
+
+abbrev pub lent : ℕ → (variables actions conditions crews tasks : List ℕ) → Lists
+lent situation variables actions conditions crews tasks =
+    record {
+      situation = situation;
+      variables = variables;
+      actions = actionsIn actions (conditionsIn conditions);
+      crews = crewsIn crews (errandsIn tasks);
+    }

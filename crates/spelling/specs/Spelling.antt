@@ -2,7 +2,7 @@
 -- Assumes nothing.
 use Prim.Native.Nat.{ℕ, _/_, _%_}
 use mathlib.Core.List.{List, [], _∷_, _++_}
-use Rattle.study.specs.Reading.{Record, variable, action, condition, task, seed, end, times, present}
+use Rattle.study.specs.Reading.{Record, variable, action, condition, task, seed, end, times, present, crew}
 
 -- the byte that a record begins with
 abbrev pub kindOf : Record → ℕ
@@ -14,6 +14,7 @@ kindOf (seed n) = 5
 kindOf end = 6
 kindOf (times n) = 7
 kindOf (present n) = 8
+kindOf crew = 9
 
 -- its kind, then its body: the seed in four bytes, most significant first
 unfoldable pub spelledRecord : Record → List ℕ
@@ -25,6 +26,7 @@ spelledRecord (seed n) = 5 ∷ n / 16777216 ∷ n / 65536 % 256 ∷ n / 256 % 25
 spelledRecord end = 6 ∷ []
 spelledRecord (times n) = 7 ∷ n ∷ []
 spelledRecord (present n) = 8 ∷ n ∷ []
+spelledRecord crew = 9 ∷ []
 
 unfoldable pub spelled : List Record → List ℕ
 spelled [] = []

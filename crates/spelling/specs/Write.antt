@@ -7,6 +7,7 @@ use lib.ListN.{length, drop}
 use Rattle.plain.specs.Choose.{pick}
 use Rattle.answer.specs.Answers.{done, refusal}
 use Rattle.answer.specs.Allowing.{Allowing, Exactly}
+use Rattle.study.specs.Study.{Roster}
 use Rattle.study.specs.Reading.{Said, says, refused, reading}
 use Rattle.spelling.specs.Lists.{fileOf}
 use Rattle.spelling.specs.Lent.{lent}
@@ -19,10 +20,10 @@ WritesFile file before =
     (Exactly (refusal 13 (length file)) before)
 
 -- refused as the reader refuses, or written
-abbrev pub Writes : Said → List ℕ → List ℕ → Allowing
+abbrev pub Writes : Said Roster → List ℕ → List ℕ → Allowing
 Writes (refused number place) file before = Exactly (refusal number place) before
-Writes (says study) file before = WritesFile file before
+Writes (says roster) file before = WritesFile file before
 
-abbrev pub WriteAllows : ℕ → (variables actions conditions tasks : List ℕ) → ℕ → List ℕ → Allowing
-WriteAllows situation variables actions conditions tasks seed before =
-    Writes (reading (fileOf (lent situation variables actions conditions tasks seed))) (fileOf (lent situation variables actions conditions tasks seed)) before
+abbrev pub WriteAllows : ℕ → (variables actions conditions crews tasks : List ℕ) → List ℕ → Allowing
+WriteAllows situation variables actions conditions crews tasks before =
+    Writes (reading (fileOf (lent situation variables actions conditions crews tasks))) (fileOf (lent situation variables actions conditions crews tasks)) before

@@ -3,14 +3,15 @@
 use mathlib.Core.List.{List}
 use Prim.Native.Nat.{ℕ, zero, suc, _+_}
 use lib.ListN.{length}
+use Rattle.study.specs.Study.{Roster}
 use Rattle.study.specs.Reading.{Said, refused, Draft, blank, Verdict, settled, onward, verdictAt, follow, readOn, reading}
 
-module _ (P : Said → Type 0) (Between : ℕ → Draft → Type 0) where
+module _ (P : Said Roster → Type 0) (Between : ℕ → Draft → Type 0) where
   abbrev pub VerdictHas : Verdict → Type 0
   VerdictHas (settled s) = P s
   VerdictHas (onward at d) = Between at d
 
-  follow-has : (v : Verdict) (read : ℕ → Draft → Said) → VerdictHas v → ((at : ℕ) (d : Draft) → Between at d → P (read at d)) → P (follow v read)
+  follow-has : (v : Verdict) (read : ℕ → Draft → Said Roster) → VerdictHas v → ((at : ℕ) (d : Draft) → Between at d → P (read at d)) → P (follow v read)
   follow-has (settled s) read h f = h
   follow-has (onward at d) read h f = f at d h
 
@@ -26,7 +27,7 @@ module _ (P : Said → Type 0) (Between : ℕ → Draft → Type 0) where
 
 -- two things that are so of a verdict
 pub verdict-has-both :
-    (P Q : Said → Type 0) (A B : ℕ → Draft → Type 0) (v : Verdict) → VerdictHas P A v → VerdictHas Q B v
+    (P Q : Said Roster → Type 0) (A B : ℕ → Draft → Type 0) (v : Verdict) → VerdictHas P A v → VerdictHas Q B v
     → VerdictHas (λ s. P s × Q s) (λ at d. A at d × B at d) v
 verdict-has-both P Q A B (settled s) p q = (p, q)
 verdict-has-both P Q A B (onward at d) a b = (a, b)

@@ -7,7 +7,8 @@ use Prim.Native.Nat.{ℕ, suc}
 use Rattle.records.specs.Records.{recordAt}
 use Rattle.records.specs.declared.Found.{Found}
 use Rattle.records.specs.declared.Found.the-variants.{There}
-use Rattle.study.specs.Reading.{Said, refused, Draft, settled, onward, allowed, fault, recordFrom, taken, unless, judged, verdictAt, readOn}
+use Rattle.study.specs.Study.{Roster}
+use Rattle.study.specs.Reading.{Said, refused, Draft, settled, onward, allowed, faultIn, recordFrom, taken, unless, judged, verdictAt, readOn}
 
 module _ (file : List ℕ) (at : ℕ) (d : Draft) where
   pub verdict-by : {f : Found} → recordAt file at ≡ f → verdictAt file at d ≡ judged file at d f
@@ -21,13 +22,13 @@ module _ (file : List ℕ) (at : ℕ) (d : Draft) where
 
     pub verdict-allowed :
         allowed d kind ≡ true
-        → verdictAt file at d ≡ unless (fault (d .study) (recordFrom file start kind)) at (taken file at d kind next (recordFrom file start kind))
+        → verdictAt file at d ≡ unless (faultIn d (recordFrom file start kind)) at (taken file at d kind next (recordFrom file start kind))
     unfolding judged
     verdict-allowed h = rw (verdict-by there, h)
 
 -- one look more, by its verdict
 module _ (file : List ℕ) (at : ℕ) (d : Draft) {looks n : ℕ} (one-more : looks ≡ suc n) where
-  pub read-settled : {s : Said} → verdictAt file at d ≡ settled s → readOn looks file at d ≡ s
+  pub read-settled : {s : Said Roster} → verdictAt file at d ≡ settled s → readOn looks file at d ≡ s
   unfolding readOn
   read-settled e = rw (one-more, e)
 

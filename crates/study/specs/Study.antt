@@ -1,4 +1,4 @@
--- A study: its situation, variables, actions, tasks and seed, as document 01 and the requests of document 02 name them.
+-- What a file holds, its situation, variables, actions and crews; and a study, which is what it holds for one crew: as document 01 and the requests of document 02 name them.
 -- Assumes nothing.
 use Prim.Native.Nat.{ℕ}
 use mathlib.Core.Bool.{Bool}
@@ -22,7 +22,19 @@ pub record Task : Type 0 where
   pub start : ℕ
   pub goal : ℕ
 
--- `counts` says how many values each variable has; task v is that of variable v
+-- a crew: its tasks, task v that of variable v, and its seed
+pub record Crew : Type 0 where
+  pub tasks : List Task
+  pub seed : ℕ
+
+-- `counts` says how many values each variable has
+pub record Roster : Type 0 where
+  pub situation : ℕ
+  pub counts : List ℕ
+  pub actions : List Action
+  pub crews : List Crew
+
+-- the same with the tasks and the seed of one crew
 pub record Study : Type 0 where
   pub situation : ℕ
   pub counts : List ℕ
@@ -42,6 +54,9 @@ inForce situation a = bit (a .situations) situation
 abbrev pub noAction : Action
 noAction = record { var = 0; pre = 0; post = 0; conditions = []; situations = 0 }
 
+abbrev pub noCrew : Crew
+noCrew = record { tasks = []; seed = 0 }
+
 abbrev pub noTask : Task
 noTask = record { start = 0; goal = 0 }
 
@@ -50,6 +65,13 @@ noCondition = record { var = 0; value = 0 }
 
 abbrev pub actionAt : List Action → ℕ → Action
 actionAt actions i = getD actions i noAction
+
+abbrev pub crewAt : List Crew → ℕ → Crew
+crewAt crews c = getD crews c noCrew
+
+-- the study of a crew
+abbrev pub studyOf : Roster → Crew → Study
+studyOf r k = record { situation = r .situation; counts = r .counts; actions = r .actions; tasks = k .tasks; seed = k .seed }
 
 abbrev pub taskAt : List Task → ℕ → Task
 taskAt tasks v = getD tasks v noTask

@@ -14,18 +14,18 @@ use Rattle.answer.specs.declared.Answer.{Answer}
 use Rattle.answer.specs.Answers.{done, refusal}
 use Rattle.answer.specs.Allowing.{Exactly}
 use Rattle.study.specs.Study.{Study}
-use Rattle.study.specs.Reading.{Said, says, refused, reading}
-use Rattle.study.proofs.Refusals.{numbered-some, refusals-numbered}
+use Rattle.study.specs.Reading.{Said, says, refused, readingFor}
+use Rattle.study.proofs.Refusals.{heard-some, refusals-heard}
 use Rattle.varied.specs.Figures.{reportOf}
 use Rattle.varied.specs.Report.{firstOutside, BySeeds, ReportsOn, ReportAllows}
-use Rattle.survey.specs.Input.{firstIn, countIn, fileIn}
+use Rattle.survey.specs.Input.{crewIn, firstIn, countIn, fileIn}
 
 pub handed :
-    (input before after : List ℕ) (r : Answer) (n end first count : ℕ)
-    → end - 16 ≡ n - 16 → first ≡ firstIn input → count ≡ countIn input
-    → ReportAllows (take (end - 16) (drop 16 input)) first count before r after
-    → ReportAllows (fileIn n input) (firstIn input) (countIn input) before r after
-handed input before after r n end first count e f g w = rw (e, f, g) at w
+    (input before after : List ℕ) (r : Answer) (n end crew first count : ℕ)
+    → end - 24 ≡ n - 24 → crew ≡ crewIn input → first ≡ firstIn input → count ≡ countIn input
+    → ReportAllows (take (end - 24) (drop 24 input)) crew first count before r after
+    → ReportAllows (fileIn n input) (crewIn input) (firstIn input) (countIn input) before r after
+handed input before after r n end crew first count e c f g w = rw (e, c, f, g) at w
 
 -- ---- what answer 0 says
 
@@ -49,12 +49,13 @@ module _ (first n : ℕ) (before : List ℕ) (r : Answer) (after : List ℕ) (ze
   fits-if-few t true p = fits-by-seeds t (firstOutside first n) p
   fits-if-few t false p = absurd (omega (arith, ap (λ (x : Answer). x .number) (p .0)))
 
-  fits-said : (file : List ℕ) (said : Said) → reading file ≡ said → ReportsOn said first n before r after → r .first ≤ length before
-  fits-said file (refused number place) e p =
-      absurd (omega (arith, ap (λ (x : Answer). x .number) (p .0), numbered-some (rw e at (refusals-numbered file))))
-  fits-said file (says t) e p = fits-if-few t (leb 1 n && leb n 64) p
+  fits-said :
+      (file : List ℕ) (crew : ℕ) (said : Said Study) → readingFor file crew ≡ said → ReportsOn said first n before r after → r .first ≤ length before
+  fits-said file crew (refused number place) e p =
+      absurd (omega (arith, ap (λ (x : Answer). x .number) (p .0), heard-some (rw e at (refusals-heard file crew))))
+  fits-said file crew (says t) e p = fits-if-few t (leb 1 n && leb n 64) p
 
 pub report-fits :
-    (file : List ℕ) (first n : ℕ) (before : List ℕ) (r : Answer) (after : List ℕ) → r .number ≡ 0
-    → ReportAllows file first n before r after → r .first ≤ length before
-report-fits file first n before r after zero p = fits-said first n before r after zero file (reading file) refl p
+    (file : List ℕ) (crew first n : ℕ) (before : List ℕ) (r : Answer) (after : List ℕ) → r .number ≡ 0
+    → ReportAllows file crew first n before r after → r .first ≤ length before
+report-fits file crew first n before r after zero p = fits-said first n before r after zero file crew (readingFor file crew) refl p

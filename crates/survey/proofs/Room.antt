@@ -16,11 +16,11 @@ use Rattle.answer.specs.declared.Answer.{Answer}
 use Rattle.answer.specs.Answers.{done, refusal}
 use Rattle.answer.specs.Allowing.{Exactly}
 use Rattle.study.specs.Study.{Study}
-use Rattle.study.specs.Reading.{Said, says, refused, reading}
-use Rattle.study.proofs.Refusals.{numbered-some, numbered-outside, refusals-numbered}
+use Rattle.study.specs.Reading.{Said, says, refused, readingFor}
+use Rattle.study.proofs.Refusals.{numbered-some, refusals-numbered, heard-outside, refusals-heard}
 use Rattle.lawful.specs.Lawful.{Lawful}
 use Rattle.lawful.specs.Lengths.{longestFile}
-use Rattle.lawful.proofs.Loads.{loads-lawful}
+use Rattle.lawful.proofs.Loads.{heard-lawful}
 use Rattle.lawful.proofs.Lengths.{longer-is-refused}
 use Rattle.varied.specs.Outcomes.{Outcome, planned, barred, ComesTo, Come}
 use Rattle.varied.specs.Figures.{reportOf}
@@ -76,19 +76,19 @@ module _ (first n : ℕ) (before : List ℕ) (room : longestReport ≤ length be
   roomy-if-few t lawful true p thirteen = roomy-by-seeds t lawful (firstOutside first n) p thirteen
   roomy-if-few t lawful false p thirteen = omega (arith, ap (λ (x : Answer). x .number) (p .0))
 
-  roomy-said : (file : List ℕ) (said : Said) → reading file ≡ said → ReportsOn said first n before r after → r .number ≢ 13
-  roomy-said file (refused number place) e p thirteen =
-      numbered-outside (rw e at (refusals-numbered file)) 13 (omega arith) (omega arith) (omega (arith, ap (λ (x : Answer). x .number) (p .0)))
-  roomy-said file (says t) e p thirteen = roomy-if-few t (loads-lawful file t e) (leb 1 n && leb n 64) p thirteen
+  roomy-said : (file : List ℕ) (crew : ℕ) (said : Said Study) → readingFor file crew ≡ said → ReportsOn said first n before r after → r .number ≢ 13
+  roomy-said file crew (refused number place) e p thirteen =
+      heard-outside (rw e at (refusals-heard file crew)) 13 (omega arith) (omega arith) (omega (arith, ap (λ (x : Answer). x .number) (p .0)))
+  roomy-said file crew (says t) e p thirteen = roomy-if-few t (heard-lawful file crew t e) (leb 1 n && leb n 64) p thirteen
 
-  pub never-13 : (file : List ℕ) → ReportAllows file first n before r after → r .number ≢ 13
-  never-13 file p = roomy-said file (reading file) refl p
+  pub never-13 : (file : List ℕ) (crew : ℕ) → ReportAllows file crew first n before r after → r .number ≢ 13
+  never-13 file crew p = roomy-said file crew (readingFor file crew) refl p
 
 -- ---- a file that fills all the bytes read
 
 pub cut-file-is-refused :
-    (file : List ℕ) → longestFile < length file → (first n : ℕ) (before : List ℕ) (r : Answer) (after : List ℕ)
-    → ReportAllows file first n before r after → r .number ≢ 0
-cut-file-is-refused file long first n before r after p zero =
+    (file : List ℕ) → longestFile < length file → (crew first n : ℕ) (before : List ℕ) (r : Answer) (after : List ℕ)
+    → ReportAllows file crew first n before r after → r .number ≢ 0
+cut-file-is-refused file long crew first n before r after p zero =
     let (number, (place, said)) = longer-is-refused file long in
     omega (arith, ap (λ (x : Answer). x .number) ((rw said at p) .0), numbered-some (rw said at (refusals-numbered file)))

@@ -6,10 +6,12 @@ use mathlib.Core.Bool.{true}
 use mathlib.Core.List.{List}
 use lib.Dec.{eqb}
 use lib.ListN.{length, getD}
-use Rattle.study.specs.Study.{Condition, Action, Task, Study, inForce, actionAt, taskAt, conditionAt}
-use Rattle.study.specs.Reading.{says, refused, reading}
+use Rattle.study.specs.Study.{Condition, Action, Task, Crew, Roster, Study, inForce, actionAt, taskAt, crewAt, conditionAt}
+use Rattle.study.specs.Reading.{says, refused, reading, readingFor}
 use Rattle.tables.specs.declared.Loaded.{Loaded}
 use Rattle.tables.specs.declared.Loaded.the-variants as Said-of
+use Rattle.tables.specs.declared.Read.{Read}
+use Rattle.tables.specs.declared.Read.the-variants as Read-of
 
 -- by variable and value, at 16 * v + q: the action in force that sets it;
 -- by action: its variable, pre and post, the place of its first condition in the file, how many it has, and 0 where it is in force
@@ -97,7 +99,44 @@ pub record Holds (file : List ℕ) (nv na x : ℕ) (t : Tables) (s : Study) : Ty
   pub tasks : HoldsTasks nv (t .starts) (t .goals) (s .tasks)
   pub seed : x ≡ s .seed
 
--- what is loaded answers to what the file says
-abbrev pub Loads : List ℕ → Tables → Loaded → Type 0
-Loads file t (Said-of.Study vars actions seed) = (s : Study) × (reading file ≡ says s) × Holds file vars actions seed t s
-Loads file t (Said-of.Refused n place) = reading file ≡ refused n place
+-- what is loaded for a crew answers to what the file says to it
+abbrev pub Loads : List ℕ → ℕ → Tables → Loaded → Type 0
+Loads file crew t (Said-of.Study vars actions seed) = (s : Study) × (readingFor file crew ≡ says s) × Holds file vars actions seed t s
+Loads file crew t (Said-of.Refused n place) = readingFor file crew ≡ refused n place
+
+-- ---- all crews, whose tasks and seeds stay in the file
+
+-- the seed of the record at a place
+abbrev pub seedOf : ℕ → ℕ → ℕ → ℕ → ℕ
+seedOf a b c d = ((a * 256 + b) * 256 + c) * 256 + d
+
+abbrev pub seedAt : List ℕ → ℕ → ℕ
+seedAt file at = seedOf (getD file (at + 1) 0) (getD file (at + 2) 0) (getD file (at + 3) 0) (getD file (at + 4) 0)
+
+-- a crew's tasks stand in the file from a place on, four bytes each: kind, variable, start, goal; its seed stands behind them
+pub record HoldsCrew (file : List ℕ) (place n : ℕ) (k : Crew) : Type 0 where
+  pub count : n ≡ length (k .tasks)
+  pub room : place + 4 * n + 5 ≤ length file
+  pub start : (v : ℕ) → v < n → getD file (place + 4 * v + 2) 0 ≡ taskAt (k .tasks) v .start
+  pub goal : (v : ℕ) → v < n → getD file (place + 4 * v + 3) 0 ≡ taskAt (k .tasks) v .goal
+  pub seed : seedAt file (place + 4 * n) ≡ k .seed
+
+-- by crew: the place of its first task
+pub record HoldsCrews (file : List ℕ) (n count : ℕ) (places : List ℕ) (crews : List Crew) : Type 0 where
+  pub long : length places ≡ 8
+  pub count-is : count ≡ length crews
+  pub few : count ≤ 8
+  pub crew : (c : ℕ) → c < count → HoldsCrew file (getD places c 0) n (crewAt crews c)
+
+-- the tables, with the numbers of variables, actions and crews, hold the roster that a file says
+pub record HoldsRoster (file : List ℕ) (nv na nc : ℕ) (t : Tables) (places : List ℕ) (r : Roster) : Type 0 where
+  pub sized : Sized t
+  pub counts : HoldsCounts nv (t .counts) (r .counts)
+  pub actions : HoldsActions file (r .situation) na (t .acts) (r .actions)
+  pub setters : NamesSetters (r .situation) na (t .acts .setters) (r .actions)
+  pub crews : HoldsCrews file nv nc places (r .crews)
+
+-- what is read answers to what the file says
+abbrev pub Reads : List ℕ → Tables → List ℕ → Read → Type 0
+Reads file t places (Read-of.Roster vars actions crews) = (r : Roster) × (reading file ≡ says r) × HoldsRoster file vars actions crews t places r
+Reads file t places (Read-of.Refused n place) = reading file ≡ refused n place

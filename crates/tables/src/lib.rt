@@ -7,12 +7,25 @@ ghost use Rattle.tables.specs.Rows.{startColumn, outColumn, setsInRow, o
 ghost use Rattle.tables.specs.Numbers.{notLoaded};
 use answer::Answer;
 
-// What a file says: how many variables and actions, and the seed; the rest is in the tables. Or the refusal.
+// What a file says to a crew: how many variables and actions, and the seed; the rest is in the tables. Or the refusal.
 pub enum Loaded {
     Study {
         vars: usize,
         actions: usize,
         seed: u64,
+    },
+    Refused {
+        number: u8,
+        place: usize,
+    },
+}
+
+// What a file says of all crews: how many variables, actions and crews; the rest is in the tables. Or the refusal.
+pub enum Read {
+    Roster {
+        vars: usize,
+        actions: usize,
+        crews: usize,
     },
     Refused {
         number: u8,

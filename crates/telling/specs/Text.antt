@@ -28,6 +28,10 @@ lineEnd = 10 ∷ []
 abbrev pub firstLine : ℕ → List ℕ
 firstLine n = (112 ∷ 108 ∷ 97 ∷ 110 ∷ []) ++ (spaced n ++ lineEnd)
 
+-- `crew` and its number
+abbrev pub crewLine : ℕ → List ℕ
+crewLine c = (99 ∷ 114 ∷ 101 ∷ 119 ∷ []) ++ (spaced c ++ lineEnd)
+
 -- `refused` and the three numbers
 abbrev pub refusedLine : ℕ → ℕ → ℕ → List ℕ
 refusedLine number first second =

@@ -5,7 +5,7 @@ ghost use mathlib.Core.Path.{_≡_};
 ghost use Prim.Native.Nat.{_+_, _≤_, _<_};
 ghost use lib.ListN.{length, take};
 ghost use Rattle.tables.specs.Rows.{varColumn, preColumn, postColumn};
-ghost use Rattle.telling.specs.Text.{Appends, decimal, spaced, firstLine, stepLine, shownIn, planText, refusedLine};
+ghost use Rattle.telling.specs.Text.{Appends, decimal, spaced, firstLine, crewLine, stepLine, shownIn, planText, refusedLine};
 use answer::Answer;
 
 // The one line of a refusal: 71 bytes at most.
@@ -44,6 +44,16 @@ pub fn first(len: usize, out: &mut [u8]) -> usize
 {
     let a = text::put(out, 0, b"plan");
     let b = short(out, a, len);
+    text::put(out, b, b"\n")
+}
+
+// The line before what is told of a crew: 26 bytes at most.
+pub fn crew(c: u64, out: &mut [u8]) -> usize
+    requires { ⌜ 26 ≤ length (now out) ⌝ }
+    ensures { λ r. ⌜ (r ≤ 26) × (take r (now (out .exit)) ≡ crewLine c) ⌝ }
+{
+    let a = text::put(out, 0, b"crew");
+    let b = long(out, a, c);
     text::put(out, b, b"\n")
 }
 

@@ -1,4 +1,4 @@
--- A file's seeds, all there are, either all give a plan, equally long, or are all refused with the same three numbers.
+-- The seeds for a file's crew, all there are, either all give a plan, equally long, or are all refused with the same three numbers.
 -- Assumes nothing.
 use Prim.Native.Nat.{ℕ}
 use mathlib.Core.Path.{_≡_}
@@ -7,9 +7,9 @@ use mathlib.Core.List.{List, [], _∷_}
 use lib.ListN.{length}
 use Rattle.answer.specs.declared.Answer.{Answer}
 use Rattle.study.specs.Study.{Study}
-use Rattle.study.specs.Reading.{says, reading}
+use Rattle.study.specs.Reading.{says, readingFor}
 use Rattle.lawful.specs.Lawful.{Lawful}
-use Rattle.lawful.proofs.Loads.{loads-lawful}
+use Rattle.lawful.proofs.Loads.{heard-lawful}
 use Rattle.planning.specs.Refusals.{NoPlanCanBe}
 use Rattle.varied.specs.Outcomes.{Outcome, planned, barred, ComesTo}
 use Rattle.varied.proofs.Alike.{PlanOf, plan-then-plans, barred-comes, barred-is-10-11-12}
@@ -40,5 +40,5 @@ lawful-seeds-alike {t} lawful = let (o, c) = comes-to-some lawful 1 in from o c
         )
     from (barred r) c = inr (r, (barred-is-10-11-12 lawful c, λ seed. barred-comes lawful c seed 1 .0))
 
-pub file-seeds-alike : (file : List ℕ) (t : Study) → reading file ≡ says t → SeedsAlike t
-file-seeds-alike file t loads = lawful-seeds-alike (loads-lawful file t loads)
+pub file-seeds-alike : (file : List ℕ) (crew : ℕ) (t : Study) → readingFor file crew ≡ says t → SeedsAlike t
+file-seeds-alike file crew t loads = lawful-seeds-alike (heard-lawful file crew t loads)

@@ -15,9 +15,9 @@ use Rattle.answer.specs.Allowing.{Allowing, Exactly, Settles, Answers, AllowsOn
 use Rattle.answer.specs.declared.Answer.{Answer}
 use Rattle.draw.specs.Draw.{drawn}
 use Rattle.study.specs.Study.{Study}
-use Rattle.study.specs.Reading.{Said, says, refused, reading}
+use Rattle.study.specs.Reading.{Said, says, refused, readingFor}
 use Rattle.lawful.specs.Lawful.{Lawful}
-use Rattle.lawful.proofs.Loads.{LawfulIfSaid, reading-lawful}
+use Rattle.lawful.proofs.Loads.{LawfulIfHeard, hearing-lawful}
 use Rattle.planning.proofs.Determined.{plans-determined}
 use Rattle.reference.proofs.Reference.{planned, planned-allowed}
 use Rattle.varied.specs.Outcomes.{Outcome, outcomeOf, anyRoom, ComesTo, Come}
@@ -122,24 +122,24 @@ module _ (first n : ℕ) (before : List ℕ) where
   by-seeds-one lawful none = reports-one lawful
   by-seeds-one lawful (some seed) = refused-one 18 seed
 
-  said-one : (said : Said) → LawfulIfSaid said → AllowsOne before (ReportsOn said first n before)
+  said-one : (said : Said Study) → LawfulIfHeard said → AllowsOne before (ReportsOn said first n before)
   said-one (refused number place) lawful = refused-one number place
   said-one (says t) lawful = by-test (leb 1 n && leb n 64) (by-seeds-one lawful (firstOutside first n)) (refused-one 19 n)
 
-module _ (file : List ℕ) (first n : ℕ) (before : List ℕ) where
-  one-allowed : AllowsOne before (ReportAllows file first n before)
-  one-allowed = said-one first n before (reading file) (reading-lawful file)
+module _ (file : List ℕ) (crew first n : ℕ) (before : List ℕ) where
+  one-allowed : AllowsOne before (ReportAllows file crew first n before)
+  one-allowed = said-one first n before (readingFor file crew) (hearing-lawful file crew)
 
-  pub report-settles : Settles (ReportAllows file first n before)
+  pub report-settles : Settles (ReportAllows file crew first n before)
   report-settles r r′ after after′ p q =
       let (a, b) = one-allowed .only-it .only r after p in
       let (c, d) = one-allowed .only-it .only r′ after′ q in
       (a ∙ sym c, b ∙ sym d)
 
-  pub report-answers : Answers (ReportAllows file first n before)
+  pub report-answers : Answers (ReportAllows file crew first n before)
   report-answers = record { answer = one-allowed .answer; bytes = one-allowed .bytes; allowed = one-allowed .only-it .allowed }
 
-  pub report-unaltered : RefusalAltersNothing (ReportAllows file first n before) before
+  pub report-unaltered : RefusalAltersNothing (ReportAllows file crew first n before) before
   report-unaltered r after p h =
       let (a, b) = one-allowed .only-it .only r after p in
       b ∙ one-allowed .unaltered (λ e. h (ap (λ (answer : Answer). answer .number) a ∙ e))

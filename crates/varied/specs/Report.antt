@@ -1,4 +1,4 @@
--- What a report on so many seeds in a row may answer: the file's own refusal, then 19, then 18, then 13, or 0 with the report in the buffer.
+-- What a report on so many seeds in a row may answer for a crew: the file's own refusal, then 22, then 19, then 18, then 13, or 0 with the report in the buffer.
 -- Assumes nothing.
 use Prim.Native.Nat.{ℕ, zero, suc}
 use mathlib.Core.Path.{_≡_}
@@ -13,7 +13,7 @@ use Rattle.answer.specs.Allowing.{Allowing, Exactly}
 use Rattle.answer.specs.declared.Answer.{Answer}
 use Rattle.draw.specs.Draw.{seedInRange}
 use Rattle.study.specs.Study.{Study}
-use Rattle.study.specs.Reading.{Said, says, refused, reading}
+use Rattle.study.specs.Reading.{Said, says, refused, readingFor}
 use Rattle.varied.specs.Outcomes.{Outcome, Come}
 use Rattle.varied.specs.Figures.{reportOf}
 
@@ -40,10 +40,10 @@ abbrev pub BySeeds : Option ℕ → Study → ℕ → ℕ → List ℕ → Allow
 BySeeds none t first n before = Reports t first n before
 BySeeds (some seed) t first n before = Exactly (refusal 18 seed) before
 
-abbrev pub ReportsOn : Said → ℕ → ℕ → List ℕ → Allowing
+abbrev pub ReportsOn : Said Study → ℕ → ℕ → List ℕ → Allowing
 ReportsOn (refused number place) first n before = Exactly (refusal number place) before
 ReportsOn (says t) first n before =
     pick (leb 1 n && leb n 64) (BySeeds (firstOutside first n) t first n before) (Exactly (refusal 19 n) before)
 
-abbrev pub ReportAllows : List ℕ → ℕ → ℕ → List ℕ → Allowing
-ReportAllows file first n before = ReportsOn (reading file) first n before
+abbrev pub ReportAllows : List ℕ → ℕ → ℕ → ℕ → List ℕ → Allowing
+ReportAllows file crew first n before = ReportsOn (readingFor file crew) first n before

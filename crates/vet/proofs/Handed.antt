@@ -8,7 +8,7 @@ use lib.ListN.{take, drop}
 use lib.Seq.{drop-drop}
 use Rattle.answer.specs.declared.Answer.{Answer}
 use Rattle.charts.specs.Answers.{ChartAllows}
-use Rattle.vet.specs.Input.{numberAt, behindHead, actionsIn, pairsIn, fileIn}
+use Rattle.vet.specs.Input.{numberAt, behindHead, crewIn, actionsIn, pairsIn, fileIn}
 use Rattle.vet.proofs.Parts.{least, take-same, drop-same, part, rest}
 
 -- the bytes from a place up to another
@@ -21,21 +21,21 @@ regained a b h = omega (arith, h)
 left-over : (end a b : ℕ) → a ≤ b → end - a - (b - a) ≡ end - b
 left-over end a b h = omega (arith, h)
 
-module _ (input : List ℕ) (n end many more pairs file : ℕ) (came : end - 4 ≡ n - 4)
-    (head : 4 ≤ pairs) (apart : pairs ≤ file)
-    (pairs-at : pairs - 4 ≡ least many (end - 4)) (file-at : file - pairs ≡ least more (end - pairs)) where
-  from-pairs : drop (pairs - 4) (drop 4 input) ≡ drop pairs input
-  from-pairs = drop-drop (pairs - 4) 4 input ∙ drop-same (4 + (pairs - 4)) pairs input (regained 4 pairs head)
+module _ (input : List ℕ) (n end many more pairs file : ℕ) (came : end - 6 ≡ n - 6)
+    (head : 6 ≤ pairs) (apart : pairs ≤ file)
+    (pairs-at : pairs - 6 ≡ least many (end - 6)) (file-at : file - pairs ≡ least more (end - pairs)) where
+  from-pairs : drop (pairs - 6) (drop 6 input) ≡ drop pairs input
+  from-pairs = drop-drop (pairs - 6) 6 input ∙ drop-same (6 + (pairs - 6)) pairs input (regained 6 pairs head)
 
   behind-actions : drop many (behindHead n input) ≡ take (end - pairs) (drop pairs input)
   behind-actions =
-      rest many (n - 4) (pairs - 4) (drop 4 input) (pairs-at ∙ ap (least many) came)
-      ∙ take-same (n - 4 - (pairs - 4)) (end - pairs) (drop (pairs - 4) (drop 4 input))
-      (ap (λ (k : ℕ). k - (pairs - 4)) (sym came) ∙ left-over end 4 pairs head)
+      rest many (n - 6) (pairs - 6) (drop 6 input) (pairs-at ∙ ap (least many) came)
+      ∙ take-same (n - 6 - (pairs - 6)) (end - pairs) (drop (pairs - 6) (drop 6 input))
+      (ap (λ (k : ℕ). k - (pairs - 6)) (sym came) ∙ left-over end 6 pairs head)
       ∙ ap (take (end - pairs)) from-pairs
 
-  first-part : take many (behindHead n input) ≡ between 4 pairs input
-  first-part = part many (n - 4) (pairs - 4) (drop 4 input) (pairs-at ∙ ap (least many) came)
+  first-part : take many (behindHead n input) ≡ between 6 pairs input
+  first-part = part many (n - 6) (pairs - 6) (drop 6 input) (pairs-at ∙ ap (least many) came)
 
   second-part : take more (drop many (behindHead n input)) ≡ between pairs file input
   second-part = ap (take more) behind-actions ∙ part more (end - pairs) (file - pairs) (drop pairs input) file-at
@@ -50,7 +50,7 @@ module _ (input : List ℕ) (n end many more pairs file : ℕ) (came : end - 4 �
       ∙ take-same left (end - file) (drop file input) (left-over end pairs file apart)
 
   pub handed :
-      (r : Answer) → many ≡ numberAt input 0 → more ≡ numberAt input 2
-      → ChartAllows (between file end input) (between 4 pairs input) (between pairs file input) r
-      → ChartAllows (fileIn n input) (actionsIn n input) (pairsIn n input) r
-  handed r is-many is-more w = rw (← third-part, ← first-part, ← second-part, is-many, is-more) at w
+      (crew : ℕ) (r : Answer) → many ≡ numberAt input 0 → more ≡ numberAt input 2 → crew ≡ crewIn input
+      → ChartAllows (between file end input) crew (between 6 pairs input) (between pairs file input) r
+      → ChartAllows (fileIn n input) (crewIn input) (actionsIn n input) (pairsIn n input) r
+  handed crew r is-many is-more is-crew w = rw (← third-part, ← first-part, ← second-part, is-many, is-more, is-crew) at w

@@ -1,13 +1,13 @@
--- What the program's input stands for: a chart's actions, its pairs, and a study file.
+-- What the program's input stands for: a crew, a chart's actions, its pairs, and a study file.
 -- Assumes nothing.
 use Prim.Native.Nat.{ℕ, suc, _+_, _*_, _-_}
 use mathlib.Core.List.{List}
 use lib.ListN.{getD, take, drop}
 use Rattle.lawful.specs.Lengths.{longestFile}
 
--- a head of 4 bytes, two lists of 65,535 at most, and one byte more than the longest file has
+-- a head of 6 bytes, two lists of 65,535 at most, and one byte more than the longest file has
 abbrev pub inputLength : ℕ
-inputLength = 4 + 2 * 65535 + suc longestFile
+inputLength = 6 + 2 * 65535 + suc longestFile
 
 -- two bytes, most significant first
 abbrev pub numberAt : List ℕ → ℕ → ℕ
@@ -15,7 +15,10 @@ numberAt input at = 256 * getD input at 0 + getD input (at + 1) 0
 
 -- what came behind the head, of n bytes that came
 abbrev pub behindHead : ℕ → List ℕ → List ℕ
-behindHead n input = take (n - 4) (drop 4 input)
+behindHead n input = take (n - 6) (drop 6 input)
+
+abbrev pub crewIn : List ℕ → ℕ
+crewIn input = numberAt input 4
 
 -- of it as many bytes as are announced, or as came; the next; and the rest
 abbrev pub actionsIn : ℕ → List ℕ → List ℕ

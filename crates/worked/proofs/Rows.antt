@@ -8,8 +8,8 @@ use lib.Dec.{T, eqb}
 use lib.ListN.{length}
 use Rattle.answer.specs.declared.Answer.{Answer}
 use Rattle.draw.specs.Draw.{drawAnswer, drawLeaves}
-use Rattle.study.specs.Reading.{reading}
-use Rattle.lawful.proofs.Loads.{reading-lawful}
+use Rattle.study.specs.Reading.{readingFor}
+use Rattle.lawful.proofs.Loads.{hearing-lawful}
 use Rattle.runs.specs.Run.{ran, runAnswer, runLeaves}
 use Rattle.planning.proofs.Determined.{file-plans-determined}
 use Rattle.worked.specs.Table.{Call, draw, plan, run, Allows, Row, answers, straight-plans, Holds}
@@ -37,28 +37,28 @@ says-same-answer a b =
 
 unfoldable pub outcome : Call → List ℕ → Outcome
 outcome (draw seed count) before = gives (drawAnswer seed count (length before)) (drawLeaves seed count before)
-outcome (plan file ranks) before = plannedFile (reading file) ranks before
+outcome (plan file ranks) before = plannedFile (readingFor file 0) ranks before
 outcome (run file list) before =
-    gives (runAnswer (ran (reading file) (length before) list)) (runLeaves (ran (reading file) (length before) list) before)
+    gives (runAnswer (ran (readingFor file 0) (length before) list)) (runLeaves (ran (readingFor file 0) (length before) list) before)
 
 outcome-allowed : (call : Call) (before : List ℕ) → Allows call before (outcome call before .answer) (outcome call before .bytes)
 unfolding outcome
 outcome-allowed (draw seed count) before = (refl, refl)
-outcome-allowed (plan file ranks) before = planned-file-allowed (reading file) (reading-lawful file) ranks before
+outcome-allowed (plan file ranks) before = planned-file-allowed (readingFor file 0) (hearing-lawful file 0) ranks before
 outcome-allowed (run file list) before = (refl, refl)
 
 allowed-determined :
     (call : Call) (before : List ℕ) {r r′ : Answer} {bytes bytes′ : List ℕ}
     → Allows call before r bytes → Allows call before r′ bytes′ → (r ≡ r′) × (bytes ≡ bytes′)
 allowed-determined (draw seed count) before a b = (a .0 ∙ sym (b .0), a .1 ∙ sym (b .1))
-allowed-determined (plan file ranks) before a b = file-plans-determined file ranks before a b
+allowed-determined (plan file ranks) before a b = file-plans-determined file 0 ranks before a b
 allowed-determined (run file list) before a b = (a .0 ∙ sym (b .0), a .1 ∙ sym (b .1))
 
 -- ---- the test of a row, and the law
 
 unfoldable pub test : Row → Bool
 test (answers call before answer after) = sameAnswer (outcome call before .answer) answer && sameBytes (outcome call before .bytes) after
-test (straight-plans file lists) = alike sameBytes (straightPlansIn (reading file)) lists
+test (straight-plans file lists) = alike sameBytes (straightPlansIn (readingFor file 0)) lists
 
 pub test-holds : (row : Row) → T (test row) → Holds row
 unfolding test
@@ -67,5 +67,5 @@ test-holds (answers call before answer after) h =
     let allowed : Allows call before answer after = rw (e, f) at (outcome-allowed call before) in
     record { allowed = allowed; only = λ r bytes a. allowed-determined call before a allowed }
 test-holds (straight-plans file lists) h = λ list.
-    let e = so (says-alike says-same-bytes (straightPlansIn (reading file)) lists) h in
-    rw e at (straight-plans-in-file (reading file) (reading-lawful file) list)
+    let e = so (says-alike says-same-bytes (straightPlansIn (readingFor file 0)) lists) h in
+    rw e at (straight-plans-in-file (readingFor file 0) (hearing-lawful file 0) list)

@@ -9,7 +9,7 @@ use Rattle.answer.specs.declared.Answer.{Answer}
 use Rattle.study.specs.Study.{Study}
 use Rattle.study.specs.Reading.{Said, says, refused}
 use Rattle.lawful.specs.Lawful.{Lawful}
-use Rattle.lawful.proofs.Loads.{LawfulIfSaid}
+use Rattle.lawful.proofs.Loads.{LawfulIfHeard}
 use Rattle.plans.specs.Plans.{StraightPlan}
 use Rattle.orders.specs.Orders.{Order}
 use Rattle.orders.proofs.Lists.{distinct-within}
@@ -30,7 +30,7 @@ noneIfBarred (some r) lists = []
 unfoldable pub straightPlans : Study → List (List ℕ)
 straightPlans t = noneIfBarred (barred t) (orders (comesBefore t) (walkActions t) (length (walkActions t)) [])
 
-abbrev pub straightPlansIn : Said → List (List ℕ)
+abbrev pub straightPlansIn : Said Study → List (List ℕ)
 straightPlansIn (says t) = straightPlans t
 straightPlansIn (refused number place) = []
 
@@ -59,6 +59,6 @@ module _ {t : Study} (lawful : Lawful t) (list : List ℕ) where
             (length (walkActions t)) [] list h),
       )
 
-pub straight-plans-in-file : (said : Said) → LawfulIfSaid said → (list : List ℕ) → StraightIn said list ↔ OneOf list (straightPlansIn said)
+pub straight-plans-in-file : (said : Said Study) → LawfulIfHeard said → (list : List ℕ) → StraightIn said list ↔ OneOf list (straightPlansIn said)
 straight-plans-in-file (says t) lawful list = straight-plans-listed lawful list
 straight-plans-in-file (refused number place) lawful list = (λ h. h, λ h. h)

@@ -48,8 +48,8 @@ each-row (row ∷ rest) other t (suc k) h = each-row rest other (both-right (tes
 every-row-right : T (everyRow table)
 unfolding
     table Table.porter Table.pair Table.pairAndFree Table.round Table.lent test Rows.outcome
-    Reading.reading Reading.readOn Reading.verdictAt Reading.judged Reading.unless Reading.taken Reading.with Reading.placed
-    Reading.fault Reading.above Reading.sets Reading.repeatFrom Reading.mayFollow Reading.decoded Study.inForce Uses.uses Uses.named Uses.unusedFrom Bits.bit
+    Reading.reading Reading.readOn Reading.verdictAt Reading.judged Reading.unless Reading.taken Reading.with Reading.manned Reading.placed
+    Reading.fault Reading.faultIn Reading.above Reading.sets Reading.repeatFrom Reading.mayFollow Reading.decoded Study.inForce Uses.uses Uses.named Uses.unusedFrom Bits.bit
     Records.recordAt Records.recordOf Records.bodyLength Records.bodyLengths
     Ranking.tested Ranking.testedFrom Ranking.among
     Run.ran Run.runOn Run.failing Run.barred Run.held Run.away

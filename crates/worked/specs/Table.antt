@@ -1,4 +1,4 @@
--- Document 01's worked cases that are marked *, 9 and 14 as document 02 has them, as one table: each row is a call with what it is lent, the three numbers and the lent bytes afterwards.
+-- Document 01's worked cases that are marked *, 9 and 14 as document 02 has them, as one table: each row is a call with what it is lent, the three numbers and the lent bytes afterwards. The files have one crew, 0.
 -- Assumes nothing.
 use Prim.Native.Nat.{ℕ}
 use mathlib.Core.Path.{_≡_}
@@ -9,7 +9,8 @@ use Rattle.answer.specs.Answers.{three, done, refusal}
 use Rattle.answer.specs.Allowing.{Allowing, AllowsOnly}
 use Rattle.answer.specs.declared.Answer.{Answer}
 use Rattle.draw.specs.Draw.{DrawAllows}
-use Rattle.study.specs.Reading.{Said, says, refused, reading}
+use Rattle.study.specs.Study.{Study}
+use Rattle.study.specs.Reading.{Said, says, refused, readingFor}
 use Rattle.plans.specs.Plans.{StraightPlan}
 use Rattle.runs.specs.Run.{RunAllows}
 use Rattle.planning.specs.Planning.{PlanAllows}
@@ -19,19 +20,19 @@ use Rattle.planning.specs.Planning.{PlanAllows}
 pub data Call : Type 0 where
   -- a seed and a count
   draw : ℕ → ℕ → Call
-  -- a file and ranks
+  -- a file and ranks, for crew 0
   plan : List ℕ → List ℕ → Call
-  -- a file and a list to run
+  -- a file and a list to run, for crew 0
   run : List ℕ → List ℕ → Call
 
 -- what the call's contract allows: the lent bytes before, the answer, and the bytes afterwards
 abbrev pub Allows : Call → List ℕ → Allowing
 Allows (draw seed count) before = DrawAllows seed count before
-Allows (plan file ranks) before = PlanAllows file ranks before
-Allows (run file list) before = RunAllows file list before
+Allows (plan file ranks) before = PlanAllows file 0 ranks before
+Allows (run file list) before = RunAllows file 0 list before
 
--- the straight plans of what a file says; a refused file has none
-abbrev pub StraightIn : Said → List ℕ → Type 0
+-- the straight plans of what a file says to a crew; where it is refused there is none
+abbrev pub StraightIn : Said Study → List ℕ → Type 0
 StraightIn (says t) list = StraightPlan t list
 StraightIn (refused number place) list = ⊥
 
@@ -42,12 +43,12 @@ OneOf list (l ∷ rest) = (list ≡ l) ⊎ OneOf list rest
 pub data Row : Type 0 where
   -- a call, the lent bytes, the answer, and the bytes afterwards
   answers : Call → List ℕ → Answer → List ℕ → Row
-  -- a file and all its straight plans
+  -- a file and all straight plans of its crew 0
   straight-plans : List ℕ → List (List ℕ) → Row
 
 abbrev pub Holds : Row → Type 0
 Holds (answers call before answer after) = AllowsOnly (Allows call before) answer after
-Holds (straight-plans file lists) = (list : List ℕ) → StraightIn (reading file) list ↔ OneOf list lists
+Holds (straight-plans file lists) = (list : List ℕ) → StraightIn (readingFor file 0) list ↔ OneOf list lists
 
 -- ---- the files
 

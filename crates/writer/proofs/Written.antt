@@ -8,7 +8,7 @@ use lib.ListN.{length, drop}
 use borrow.Author.Tests.{le-leb, lt-leb}
 use Rattle.answer.specs.declared.Answer.{Answer}
 use Rattle.answer.specs.Answers.{refusal}
-use Rattle.study.specs.Study.{Study}
+use Rattle.study.specs.Study.{Roster}
 use Rattle.study.specs.Reading.{says, refused, reading}
 use Rattle.spelling.specs.Write.{Writes}
 
@@ -16,7 +16,7 @@ module _ (file before : List ℕ) {r : Answer} where
   pub refused-so : (number place : ℕ) → reading file ≡ refused number place → r ≡ refusal number place → Writes (reading file) file before r before
   refused-so number place e answered = rw e (answered, refl)
 
-  module _ (loads : (s : Study) × (reading file ≡ says s)) (n : ℕ) (long : n ≡ length file) where
+  module _ (loads : (r : Roster) × (reading file ≡ says r)) (n : ℕ) (long : n ≡ length file) where
     pub too-short : length before < n → r ≡ refusal 13 n → Writes (reading file) file before r before
     too-short h answered = rw (loads .1, lt-leb (length file) (length before) (omega arith), ← long) (answered, refl)
 

@@ -21,21 +21,29 @@ pub fn write(
     variables: &[u8],
     actions: &[u8],
     conditions: &[u8],
+    crews: &[u8],
     tasks: &[u8],
-    seed: u32,
     file: &mut [u8],
 ) -> Answer
-    ensures { λ r. ⌜ WriteAllows situation (now (variables .entry)) (now (actions .entry)) (now (conditions .entry)) (now (tasks .entry)) seed
+    ensures { λ r. ⌜ WriteAllows situation (now (variables .entry)) (now (actions .entry)) (now (conditions .entry)) (now (crews .entry)) (now (tasks .entry))
         (now (file .entry)) r (now (file .exit)) ⌝ }
 {
-    let judged = drafting::judge(situation, variables, actions, conditions, tasks, seed);
+    let judged = drafting::judge(situation, variables, actions, conditions, crews, tasks);
     match judged {
         Judged::Refused { number, place } => numbers(number as u64, place),
         Judged::Good(length) => {
             if file.len() < length {
                 return numbers(13, length);
             }
-            writing::write(situation, variables, actions, conditions, tasks, seed, file);
+            writing::write(
+                situation,
+                variables,
+                actions,
+                conditions,
+                crews,
+                tasks,
+                file,
+            );
             numbers(0, length)
         }
     }

@@ -2,20 +2,22 @@
 -- Assumes nothing.
 use mathlib.Core.Path.{_≡_, refl}
 use mathlib.Core.Bool.{Bool, true, false}
-use mathlib.Core.List.{List, [], _∷_, _++_, map, append-nil}
-use Prim.Native.Nat.{ℕ, _+_, _*_, _-_, _≤_}
+use mathlib.Core.List.{List, [], _∷_, _++_, map, append-nil, append-assoc}
+use Prim.Native.Nat.{ℕ, _+_, _*_, _-_, _≤_, _<_}
 use native.Mathlib.Omega.{arith}
-use lib.Dec.{eqb}
+use lib.Dec.{eqb, ltb}
 use lib.ListN.{length, getD, take, drop, length-drop, drop-of-length-le}
+use native.Mathlib.Decide.{decLt}
 use lib.Seq.{drop-drop}
+use borrow.Author.Tests.{lt-ltb, le-ltb}
 use Rattle.plain.specs.Choose.{pick}
 use Rattle.study.specs.Study.{always}
-use Rattle.study.specs.Reading.{Record, variable, times}
+use Rattle.study.specs.Reading.{Record, variable, seed, times}
 use Rattle.spelling.specs.Spelling.{spelledRecord, spelled}
-use Rattle.spelling.specs.Lists.{conditionRecord, taskRecord, timesRecord, actionRecords}
-use Rattle.spelling.specs.Lent.{conditionsIn, left, actionsIn, announced, errandsIn}
+use Rattle.spelling.specs.Lists.{Errand, Team, conditionRecord, taskRecord, timesRecord, actionRecords, behind, crewRecords}
+use Rattle.spelling.specs.Lent.{number, conditionsIn, left, actionsIn, announced, errandsIn, untaken, crewsIn, tasksAnnounced}
 use Rattle.spelling.proofs.Rewritten.{spelled-append}
-use Rattle.spelling.proofs.LentBytes.{one-byte, two-bytes, three-bytes, five-bytes, first-conditions, conditions-behind}
+use Rattle.spelling.proofs.LentBytes.{one-byte, two-bytes, three-bytes, five-bytes, first-conditions, conditions-behind, first-errands, errands-behind}
 use Rattle.writing.proofs.Putting.{Starts}
 
 pub nothing-left : (l : List ℕ) (i : ℕ) → length l ≤ i → drop i l ≡ []
@@ -109,3 +111,89 @@ no-action-left actions conditions i used h e =
     let none = nothing-left actions i h in
     let all = rw none at e in
     rw (none, nothing-left conditions used (omega arith))
+
+-- ---- crews
+
+-- the bytes of the crews from an entry on, and of the end, where one is left, with the tasks from a place on
+abbrev pub crewsFrom : List ℕ → List ℕ → ℕ → ℕ → List ℕ
+crewsFrom crews tasks i used =
+    pick (ltb i (length crews)) (spelled (crewRecords (crewsIn (drop i crews) (errandsIn (drop used tasks))))) []
+
+abbrev pub seedBytes : List ℕ → ℕ → List ℕ
+seedBytes crews i =
+    spelledRecord (seed (number (getD crews (i + 1) 0) (getD crews (i + 2) 0) (getD crews (i + 3) 0) (getD crews (i + 4) 0)))
+    ++ (pick (ltb (i + 5) (length crews)) 9 6 ∷ [])
+
+-- crews behind a seed, of which there are some
+opened : (ks : List Team) → 1 ≤ length ks → spelled (behind ks) ≡ 9 ∷ spelled (crewRecords ks)
+unfolding spelled spelledRecord behind crewRecords
+opened [] h = absurd (omega arith)
+opened (k ∷ ks) h = refl
+
+some-crew : (crews : List ℕ) (tasks : List Errand) → 1 ≤ length crews → 1 ≤ length (crewsIn crews tasks)
+unfolding crewsIn
+some-crew [] tasks h = absurd (omega arith)
+some-crew (n ∷ []) tasks h = omega arith
+some-crew (n ∷ a ∷ []) tasks h = omega arith
+some-crew (n ∷ a ∷ b ∷ []) tasks h = omega arith
+some-crew (n ∷ a ∷ b ∷ c ∷ []) tasks h = omega arith
+some-crew (n ∷ a ∷ b ∷ c ∷ d ∷ rest) tasks h = omega arith
+
+pub no-crew-left : (crews tasks : List ℕ) (i used : ℕ) → length crews ≤ i → crewsFrom crews tasks i used ≡ []
+no-crew-left crews tasks i used h = rw (le-ltb i (length crews) h)
+
+-- what stands behind a seed
+behind-seed :
+    (crews tasks : List ℕ) (i used : ℕ) → used + 3 * tasksAnnounced (drop i crews) ≡ length tasks
+    → spelled (behind (crewsIn (drop i crews) (errandsIn (drop used tasks)))) ≡ pick (ltb i (length crews)) 9 6 ∷ crewsFrom crews tasks i used
+unfolding spelled spelledRecord behind crewsIn untaken errandsIn tasksAnnounced
+behind-seed crews tasks i used all = from (decLt i (length crews))
+  where
+    from :
+        Dec (i < length crews)
+        → spelled (behind (crewsIn (drop i crews) (errandsIn (drop used tasks)))) ≡ pick (ltb i (length crews)) 9 6 ∷ crewsFrom crews tasks i used
+    from (yes more) =
+        rw (lt-ltb i (length crews) more)
+        (opened _ (some-crew (drop i crews) (errandsIn (drop used tasks)) (omega (arith, length-drop i crews))))
+    from (no done) =
+        let over : length crews ≤ i = omega arith in
+        let none = nothing-left crews i over in
+        let every = rw none at all in
+        rw (le-ltb i (length crews) over, none, nothing-left tasks used (omega arith))
+
+module _ (crews : List ℕ) (i : ℕ) (h : i + 5 ≤ length crews) where
+  pub tasks-announced-first : tasksAnnounced (drop i crews) ≡ getD crews i 0 + tasksAnnounced (drop (i + 5) crews)
+  unfolding tasksAnnounced
+  tasks-announced-first = rw (five-bytes crews i h)
+
+  -- its tasks end at a place, and behind them comes its seed
+  pub crew-first :
+      (tasks : List ℕ) (used next : ℕ) → next ≡ used + 3 * getD crews i 0
+      → next + 3 * tasksAnnounced (drop (i + 5) crews) ≡ length tasks
+      → Starts (crewsFrom crews tasks i used) (tasksFrom (take (next - used) (drop used tasks)) 0)
+      (seedBytes crews i ++ crewsFrom crews tasks (i + 5) next)
+  unfolding spelled spelledRecord crewRecords crewsIn
+  crew-first tasks used next e all =
+      record {
+        split = rw (
+          lt-ltb i (length crews) (omega arith),
+          five-bytes crews i h,
+          width,
+          first-errands many later (omega (arith, length-drop used tasks)),
+          errands-behind many later,
+          drop-drop (3 * many) used tasks,
+          ← e,
+          append-assoc,
+          spelled-append (map taskRecord (errandsIn (take (3 * many) later))) _,
+          behind-seed crews tasks (i + 5) next all,
+        );
+      }
+    where
+      many : ℕ
+      many = getD crews i 0
+
+      later : List ℕ
+      later = drop used tasks
+
+      width : next - used ≡ 3 * many
+      width = omega arith

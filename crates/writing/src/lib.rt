@@ -3,14 +3,13 @@ ghost use mathlib.Core.Path.{_≡_};
 ghost use mathlib.Core.List.{[], _∷_, _++_, map};
 ghost use Prim.Native.Nat.{_+_, _*_, _%_, _≤_};
 ghost use lib.ListN.{length, drop};
-ghost use lib.Dec.{eqb};
-ghost use lib.Seq.{sets};
+ghost use lib.Dec.{eqb, ltb};
 ghost use Rattle.plain.specs.Choose.{pick};
-ghost use Rattle.study.specs.Study.{Study};
-ghost use Rattle.study.specs.Reading.{variable, seed, end, says, reading};
-ghost use Rattle.spelling.specs.Spelling.{spelled};
-ghost use Rattle.spelling.specs.Lists.{conditionRecord, taskRecord, actionRecords, fileOf};
-ghost use Rattle.spelling.specs.Lent.{conditionsIn, actionsIn, announced, errandsIn, lent};
+ghost use Rattle.study.specs.Study.{Roster};
+ghost use Rattle.study.specs.Reading.{variable, seed, says, reading};
+ghost use Rattle.spelling.specs.Spelling.{spelledRecord, spelled};
+ghost use Rattle.spelling.specs.Lists.{conditionRecord, taskRecord, actionRecords, crewRecords, fileOf};
+ghost use Rattle.spelling.specs.Lent.{number, conditionsIn, actionsIn, announced, errandsIn, crewsIn, tasksAnnounced, lent};
 ghost use Rattle.writing.specs.Put.{Fits, Put};
 
 // ---- so many bytes, into the file from a place on; each returns the place after them
@@ -120,19 +119,52 @@ fn put_tasks(tasks: &[u8], begin: usize, file: &mut [u8]) -> usize
     at
 }
 
-// The seed in four bytes, most significant first, and the end.
-fn put_last(n: u32, begin: usize, file: &mut [u8])
-    requires { ⌜ Fits (spelled (seed n ∷ end ∷ [])) begin (now file) ⌝ }
-    ensures { λ _. ⌜ now (file .exit) ≡ sets (now (file .entry)) begin (spelled (seed n ∷ end ∷ [])) ⌝ }
+// The seed of these four bytes, and the kind of the record behind it, which has no body.
+fn put_seed(a: u8, b: u8, c: u8, d: u8, behind: u8, at: usize, file: &mut [u8]) -> usize
+    requires { ⌜ Fits (spelledRecord (seed (number a b c d)) ++ (behind ∷ [])) at (now file) ⌝ }
+    ensures { λ r. ⌜ Put (spelledRecord (seed (number a b c d)) ++ (behind ∷ [])) at (now (file .entry)) (now (file .exit)) r ⌝ }
 {
-    let at = put_three(
-        5,
-        (n / 16777216) as u8,
-        (n / 65536 % 256) as u8,
-        begin,
-        file,
-    );
-    put_three((n / 256 % 256) as u8, (n % 256) as u8, 6, at, file);
+    let middle = put_three(5, a, b, at, file);
+    put_three(c, d, behind, middle, file)
+}
+
+// What stands behind a seed: the opening of the next crew, or the end.
+fn kind_behind(next: usize, len: usize) -> u8
+    ensures { λ r. ⌜ r ≡ pick (ltb next len) 9 6 ⌝ }
+{
+    if next < len {
+        return 9;
+    }
+    6
+}
+
+// Some crew, each with its tasks and its seed, and the end.
+fn put_crews(crews: &[u8], tasks: &[u8], begin: usize, file: &mut [u8]) -> usize
+    requires { ⌜ (1 ≤ length (now crews)) × (length (now crews) % 5 ≡ 0) × (length (now tasks) ≡ 3 * tasksAnnounced (now crews))
+        × Fits (spelled (crewRecords (crewsIn (now crews) (errandsIn (now tasks))))) begin (now file) ⌝ }
+    ensures { λ r. ⌜ Put (spelled (crewRecords (crewsIn (now (crews .entry)) (errandsIn (now (tasks .entry)))))) begin
+        (now (file .entry)) (now (file .exit)) r ⌝ }
+{
+    let mut at = begin;
+    let mut i = 0;
+    let mut used = 0;
+    while i < crews.len() {
+        let next = used + 3 * tables::wide(crews[i]);
+        at = put_tasks(&tasks[used..next], at, file);
+        let behind = kind_behind(i + 5, crews.len());
+        at = put_seed(
+            crews[i + 1],
+            crews[i + 2],
+            crews[i + 3],
+            crews[i + 4],
+            behind,
+            at,
+            file,
+        );
+        used = next;
+        i += 5;
+    }
+    at
 }
 
 // The file that the lists stand for fills the first bytes.
@@ -141,20 +173,19 @@ pub fn write(
     variables: &[u8],
     actions: &[u8],
     conditions: &[u8],
+    crews: &[u8],
     tasks: &[u8],
-    seed: u32,
     file: &mut [u8],
 )
-    requires { ⌜ ((s : Study) × (reading (fileOf (lent situation (now variables) (now actions) (now conditions) (now tasks) seed)) ≡ says s))
-        × (length (fileOf (lent situation (now variables) (now actions) (now conditions) (now tasks) seed)) ≤ length (now file)) ⌝ }
+    requires { ⌜ ((r : Roster) × (reading (fileOf (lent situation (now variables) (now actions) (now conditions) (now crews) (now tasks))) ≡ says r))
+        × (length (fileOf (lent situation (now variables) (now actions) (now conditions) (now crews) (now tasks))) ≤ length (now file)) ⌝ }
     ensures { λ _. ⌜ now (file .exit)
-        ≡ fileOf (lent situation (now (variables .entry)) (now (actions .entry)) (now (conditions .entry)) (now (tasks .entry)) seed)
-        ++ drop (length (fileOf (lent situation (now (variables .entry)) (now (actions .entry)) (now (conditions .entry)) (now (tasks .entry)) seed)))
+        ≡ fileOf (lent situation (now (variables .entry)) (now (actions .entry)) (now (conditions .entry)) (now (crews .entry)) (now (tasks .entry)))
+        ++ drop (length (fileOf (lent situation (now (variables .entry)) (now (actions .entry)) (now (conditions .entry)) (now (crews .entry)) (now (tasks .entry)))))
         (now (file .entry)) ⌝ }
 {
     let variables_at = put_unless(0, 8, situation, 0, file);
     let actions_at = put_variables(variables, variables_at, file);
-    let tasks_at = put_actions(actions, conditions, actions_at, file);
-    let seed_at = put_tasks(tasks, tasks_at, file);
-    put_last(seed, seed_at, file);
+    let crews_at = put_actions(actions, conditions, actions_at, file);
+    put_crews(crews, tasks, crews_at, file);
 }

@@ -8,7 +8,7 @@ use lib.ListN.{replicate}
 use denote.Ref.{now}
 use borrow.Author.Needs.{needs}
 use Rattle.study.specs.Study.{Study}
-use Rattle.study.specs.Reading.{says, reading}
+use Rattle.study.specs.Reading.{says, readingFor}
 use Rattle.draw.specs.Draw.{drawn}
 use Rattle.tables.specs.Tables.{Holds, Loads}
 use Rattle.tables.specs.declared.Loaded.{Loaded}
@@ -25,20 +25,23 @@ use Rattle.charter.proofs.chart.Tie as tie
 
 -- what is loaded: a study that the file says
 module _ (f : tie.After-found) where
-  abbrev load-of : tie.After-load
+  abbrev load-of : tie.After-load-for
   load-of = f .before .before
 
   abbrev file-of : List ℕ
   file-of = now (load-of .before .before .before .before .before .before .before .args .file)
 
+  abbrev crew-of : ℕ
+  crew-of = load-of .before .before .before .before .before .before .before .args .crew
+
   abbrev acts-of : List (List ℕ)
-  acts-of = load-of .load .last .1 .0
+  acts-of = load-of .load-for .last .1 .1 .0
 
   abbrev vars-of : List (List ℕ)
-  vars-of = load-of .load .last .1 .1 .0
+  vars-of = load-of .load-for .last .1 .1 .1 .0
 
   abbrev setters-of : List ℕ
-  setters-of = load-of .load .last .1 .1 .1 .0
+  setters-of = load-of .load-for .last .1 .1 .1 .1 .0
 
   abbrev n-of : ℕ
   n-of = f .found .given .0 .0
@@ -49,17 +52,17 @@ module _ (f : tie.After-found) where
   abbrev seed-of : ℕ
   seed-of = f .found .given .0 .1 .1 .0
 
-  held : (t : Study) × (reading file-of ≡ says t) × Holds file-of n-of count-of seed-of (seenAll acts-of vars-of setters-of) t
-  held = subst (λ (l : Loaded). Loads file-of (seenAll acts-of vars-of setters-of) l) (f .found .given .1) (load-of .load .ensures fresh-sized)
+  held : (t : Study) × (readingFor file-of crew-of ≡ says t) × Holds file-of n-of count-of seed-of (seenAll acts-of vars-of setters-of) t
+  held = subst (λ (l : Loaded). Loads file-of crew-of (seenAll acts-of vars-of setters-of) l) (f .found .given .1) (load-of .load-for .ensures)
 
   abbrev study : Study
   study = held .0
 
-  said : reading file-of ≡ says study
+  said : readingFor file-of crew-of ≡ says study
   said = held .1
 
   known : KnownIn file-of n-of count-of seed-of acts-of vars-of setters-of study
-  known = loaded-known said (held .2)
+  known = loaded-known crew-of said (held .2)
 
 -- .. and what planning came to
 module _ (a : tie.After-plan-aside) where
@@ -75,8 +78,8 @@ module _ (a : tie.After-plan-aside) where
   in-front : a .plan-aside .result .number ≡ 0 → InFront (study found-of) (a .plan-aside .result) planned-of
   in-front = plan-in-front (known found-of .lawful) _ _ (known found-of .actions .count) (replicate 256 0) refl plans
 
-load-requires : tie.Need-load-requires
-load-requires c κs = search needs
+load-for-requires : tie.Need-load-for-requires
+load-for-requires c κs = fresh-sized
 
 enum-known-found : tie.Need-enum-known-found
 enum-known-found c = search needs
@@ -90,7 +93,7 @@ refused-requires c κs = search needs
 returns : tie.Need-returns
 returns c =
     let e = c .before .enum-told .given .1 in
-    let said = rw e at (c .before .before .before .load .ensures fresh-sized) in
+    let said = rw e at (c .before .before .before .load-for .ensures) in
     rw said (c .refused .ensures ∙ ap notLoaded e)
 
 slice-aggregate-plan-aside : tie.Need-slice-aggregate-plan-aside
@@ -128,7 +131,7 @@ pub chart-spec : {M : Type 1} → statement M
 chart-spec =
     tie.close
     (tie.spec
-    load-requires
+    load-for-requires
     enum-known-found
     enum-told
     refused-requires

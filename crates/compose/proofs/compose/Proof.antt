@@ -22,11 +22,17 @@ add-conditions c = search needs
 number-at-requires-3 : tie.Need-number-at-requires-3
 number-at-requires-3 c κs = search needs
 
-add-tasks : tie.Need-add-tasks
-add-tasks c = search needs
+add-crews : tie.Need-add-crews
+add-crews c = search needs
 
 number-at-requires-4 : tie.Need-number-at-requires-4
 number-at-requires-4 c κs = search needs
+
+add-tasks : tie.Need-add-tasks
+add-tasks c = search needs
+
+number-at-requires-5 : tie.Need-number-at-requires-5
+number-at-requires-5 c κs = search needs
 
 add-end : tie.Need-add-end
 add-end c = search needs
@@ -70,8 +76,14 @@ part-write-start-4 c = search needs
 part-write-end-4 : tie.Need-part-write-end-4
 part-write-end-4 c = search needs
 
-seed-requires : tie.Need-seed-requires
-seed-requires c κs = search needs
+sub-write-5 : tie.Need-sub-write-5
+sub-write-5 c = search needs
+
+part-write-start-5 : tie.Need-part-write-start-5
+part-write-start-5 c = search needs
+
+part-write-end-5 : tie.Need-part-write-end-5
+part-write-end-5 c = search needs
 
 write-requires : tie.Need-write-requires
 write-requires c κs = search needs
@@ -82,8 +94,8 @@ same-length c = search needs
 returns : tie.Need-returns
 returns c =
     let w = c .before .before in
-    let s = w .before .before in
-    let n4 = s .before .before .before .before .before .before in
+    let n5 = w .before .before .before .before .before .before .before .before in
+    let n4 = n5 .before in
     let n3 = n4 .before in
     let n2 = n3 .before in
     let n1 = n2 .before in
@@ -92,16 +104,18 @@ returns c =
     let second = n2 .number-at2 .ensures .1 in
     let third = n3 .number-at3 .ensures .1 in
     let fourth = n4 .number-at4 .ensures .1 in
-    let a = 13 + n1 .number-at .result in
+    let fifth = n5 .number-at5 .ensures .1 in
+    let a = 11 + n1 .number-at .result in
     let b = a + n2 .number-at2 .result in
-    let t = b + n3 .number-at3 .result in
-    let e = t + n4 .number-at4 .result in
-    handed (start .args .input .now) _ _ (w .write .result) a b t e (s .seed .result)
+    let k = b + n3 .number-at3 .result in
+    let t = k + n4 .number-at4 .result in
+    let e = t + n5 .number-at5 .result in
+    handed (start .args .input .now) _ _ (w .write .result) a b k t e
     (omega (arith, first))
     (omega (arith, first, second))
     (omega (arith, first, second, third))
     (omega (arith, first, second, third, fourth))
-    (s .seed .ensures)
+    (omega (arith, first, second, third, fourth, fifth))
     (w .write .ensures)
 
 pub compose-spec : {M : Type 1} → statement M
@@ -113,8 +127,10 @@ compose-spec =
     number-at-requires-2
     add-conditions
     number-at-requires-3
-    add-tasks
+    add-crews
     number-at-requires-4
+    add-tasks
+    number-at-requires-5
     add-end
     shared-slice-read-write
     sub-write
@@ -129,7 +145,9 @@ compose-spec =
     sub-write-4
     part-write-start-4
     part-write-end-4
-    seed-requires
+    sub-write-5
+    part-write-start-5
+    part-write-end-5
     write-requires
     same-length
     returns)

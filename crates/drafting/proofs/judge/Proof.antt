@@ -8,39 +8,39 @@ use Rattle.study.specs.Reading.{Record, variable}
 use Rattle.tables.specs.Rows.{countColumn}
 use Rattle.pacing.specs.Reads.{origin}
 use Rattle.spelling.specs.Lists.{Lists, presentRecord, fileOf}
-use Rattle.spelling.specs.Lent.{conditionsIn, actionsIn, errandsIn, lent}
+use Rattle.spelling.specs.Lent.{conditionsIn, actionsIn, errandsIn, crewsIn, lent}
 use Rattle.drafting.specs.Drafts.{BehindVariables, Drafted}
-use Rattle.drafting.proofs.Turns.{task-early, variable-early, next-variable, not-far, others-follow}
+use Rattle.drafting.proofs.Turns.{not-far, others-follow}
 use Rattle.drafting.proofs.Stops.{stopped-judged}
 use Rattle.drafting.proofs.Starts.{behindVariables, starts, actions-start}
 use Rattle.drafting.proofs.judge.Statement.{statement}
 use Rattle.drafting.proofs.judge.Tie as tie
 
 abbrev start-of : tie.After-judge-present → tie.Start
-start-of c = c .before .before .before .before .before
+start-of c = c .before .before .before .before .before .before
 
 abbrev lists-of : tie.Start → Lists
 lists-of s =
     let a = s .args in
-    lent (a .situation) (now (a .variables)) (now (a .actions)) (now (a .conditions)) (now (a .tasks)) (a .seed)
+    lent (a .situation) (now (a .variables)) (now (a .actions)) (now (a .conditions)) (now (a .crews)) (now (a .tasks))
 
 -- what is to come behind the variables
 abbrev behind-of : tie.Start → List Record
 behind-of s =
     let a = s .args in
-    behindVariables (a .situation) (now (a .variables)) (now (a .actions)) (now (a .conditions)) (now (a .tasks)) (a .seed)
+    behindVariables (a .situation) (now (a .variables)) (now (a .actions)) (now (a .conditions)) (now (a .crews)) (now (a .tasks))
 
 behind : (s : tie.Start) → BehindVariables (behind-of s)
 behind s =
     let a = s .args in
-    others-follow (actionsIn (now (a .actions)) (conditionsIn (now (a .conditions)))) (errandsIn (now (a .tasks))) (a .seed)
+    others-follow (actionsIn (now (a .actions)) (conditionsIn (now (a .conditions)))) (crewsIn (now (a .crews)) (errandsIn (now (a .tasks))))
 
 begins :
     (s : tie.Start)
     → Drafted (fileOf (lists-of s)) (countColumn (replicate 32 (replicate 3 0))) origin (presentRecord (s .args .situation) ++ (map variable (now (s .args .variables)) ++ behind-of s))
 begins s =
     let a = s .args in
-    starts (a .situation) (now (a .variables)) (now (a .actions)) (now (a .conditions)) (now (a .tasks)) (a .seed)
+    starts (a .situation) (now (a .variables)) (now (a .actions)) (now (a .conditions)) (now (a .crews)) (now (a .tasks))
 
 opened :
     (c : tie.After-by-situation)
@@ -103,14 +103,14 @@ returns-3 c =
     let begun = v .judge-variables .ensures .1 _ _ (behind s) (opened b) .on _ (w .by-variables .given .1) in
     rw (c .refusal3 .ensures) (stopped-judged _ (c .before .match3 .keys2) (x .judge-actions .ensures .1 _ _ begun))
 
-judge-tasks-requires : tie.Need-judge-tasks-requires
-judge-tasks-requires c κs =
+judge-crews-requires : tie.Need-judge-crews-requires
+judge-crews-requires c κs =
     let b = c .before .before in
     let k = b .before .before .judge-actions .ensures .0 .on _ (b .by-actions .given .1) in
     (k .0, k .1 .0)
 
-enum-known-by-tasks : tie.Need-enum-known-by-tasks
-enum-known-by-tasks c = search needs
+enum-known-by-crews : tie.Need-enum-known-by-crews
+enum-known-by-crews c = search needs
 
 refusal-requires-4 : tie.Need-refusal-requires-4
 refusal-requires-4 c κs = search needs
@@ -126,7 +126,7 @@ returns-4 c =
     let s = start-of (b .before .before) in
     let begun = v .judge-variables .ensures .1 _ _ (behind s) (opened b) .on _ (w .by-variables .given .1) in
     let acted = x .judge-actions .ensures .1 _ _ begun .on _ (y .by-actions .given .1) in
-    rw (c .refusal4 .ensures) (stopped-judged _ (c .before .match4 .keys2) (t .judge-tasks .ensures .1 _ _ acted))
+    rw (c .refusal4 .ensures) (stopped-judged _ (c .before .match4 .keys2) (t .judge-crews .ensures .1 _ acted))
 
 first-repeat-requires : tie.Need-first-repeat-requires
 first-repeat-requires c κs =
@@ -140,13 +140,12 @@ first-repeat-requires c κs =
     let opened = o .judge-present .ensures .0 [] .on _ (b .by-situation .given .1) in
     let begun = v .judge-variables .ensures .0 .on _ (w .by-variables .given .1) in
     let acted = x .judge-actions .ensures .0 .on _ (y .by-actions .given .1) in
-    (opened .1 .1, begun .1 .1, not-far (begun .0) (variable-early (next-variable (begun .1 .0))), acted .1 .1)
+    (opened .1 .1, begun .1 .1, not-far (begun .0), acted .1 .1)
 
 judge-end-requires : tie.Need-judge-end-requires
 judge-end-requires c κs =
     let z = c .before .before in
-    let k = z .before .before .judge-tasks .ensures .0 .on _ (z .by-tasks .given .1) in
-    not-far (k .0) (task-early (k .1))
+    z .before .before .judge-crews .ensures .0 .on _ (z .by-crews .given .1) .1
 
 returns-5 : tie.Need-returns-5
 returns-5 c =
@@ -161,10 +160,10 @@ returns-5 c =
     let s = start-of (b .before .before) in
     let begun = v .judge-variables .ensures .1 _ _ (behind s) (opened b) .on _ (w .by-variables .given .1) in
     let acted = x .judge-actions .ensures .1 _ _ begun .on _ (y .by-actions .given .1) in
-    let tasked = t .judge-tasks .ensures .1 _ _ acted .on _ (z .by-tasks .given .1) in
+    let manned = t .judge-crews .ensures .1 _ acted .on _ (z .by-crews .given .1) in
     let a = s .args in
-    let front = actions-start (a .situation) (now (a .variables)) (now (a .actions)) (now (a .conditions)) (now (a .tasks)) (a .seed) begun in
-    c .judge-end .ensures (lists-of s) _ tasked (rw front at (f .first-repeat .ensures (conditionsIn (now (a .conditions)))))
+    let front = actions-start (a .situation) (now (a .variables)) (now (a .actions)) (now (a .conditions)) (now (a .crews)) (now (a .tasks)) begun in
+    c .judge-end .ensures (lists-of s) _ manned (rw front at (f .first-repeat .ensures (conditionsIn (now (a .conditions)))))
 
 pub judge-spec : {M : Type 1} → statement M
 judge-spec =
@@ -182,8 +181,8 @@ judge-spec =
     enum-known-by-actions
     refusal-requires-3
     returns-3
-    judge-tasks-requires
-    enum-known-by-tasks
+    judge-crews-requires
+    enum-known-by-crews
     refusal-requires-4
     returns-4
     first-repeat-requires

@@ -18,7 +18,7 @@ use Rattle.drafting.proofs.judge_action.Tie as tie
 add-judge-action : tie.Need-add-judge-action
 add-judge-action c =
     let (bounds, may) = c .before .pre in
-    omega (arith, not-far bounds (action-early may))
+    omega (arith, not-far bounds)
 
 judge-action-requires : tie.Need-judge-action-requires
 judge-action-requires c κs = search needs

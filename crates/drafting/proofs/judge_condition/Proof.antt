@@ -23,7 +23,7 @@ fault-of s v q = conditionFault (countColumn (now (s .args .rows))) (s .args .p 
 add-next : tie.Need-add-next
 add-next c =
     let (bounds, low, high, _) = c .before .before .pre in
-    omega (arith, not-far bounds (λ e. omega arith))
+    omega (arith, not-far bounds)
 
 sub-if1 : tie.Need-sub-if1
 sub-if1 c = search needs

@@ -10,7 +10,7 @@ use Rattle.study.specs.Reading.{Record}
 use Rattle.tables.specs.Rows.{countColumn}
 use Rattle.pacing.specs.Reads.{Bounds}
 use Rattle.spelling.specs.Lists.{conditionRecord}
-use Rattle.spelling.specs.Lent.{conditionsIn, firstOf}
+use Rattle.spelling.specs.Lent.{unlentCondition, conditionsIn, firstOf}
 use Rattle.drafting.specs.Drafts.{Drafted}
 use Rattle.drafting.proofs.Stops.{on-keeps, on-leads, stopped-keeps, stopped-leads}
 use Rattle.drafting.proofs.LentBytes.{next-condition, no-condition}
@@ -22,8 +22,8 @@ Inv-loop many conditions used rows p₀ i₀ left₀ p i left =
     Bounds p (countColumn rows)
     × (((2 ≤ p .last) × (p .last ≤ 3) × (i ≤ length conditions) × (i + 2 * left ≡ used + 2 * many) × (p .actions ≡ p₀ .actions))
     × ((file : List ℕ) (rest : List Record)
-    → Drafted file (countColumn rows) p₀ (map conditionRecord (firstOf many (conditionsIn (drop used conditions))) ++ rest)
-    → Drafted file (countColumn rows) p (map conditionRecord (firstOf left (conditionsIn (drop i conditions))) ++ rest)))
+    → Drafted file (countColumn rows) p₀ (map conditionRecord (firstOf unlentCondition many (conditionsIn (drop used conditions))) ++ rest)
+    → Drafted file (countColumn rows) p (map conditionRecord (firstOf unlentCondition left (conditionsIn (drop i conditions))) ++ rest)))
 
 abbrev μ-loop : tie.MeasureT-loop
 μ-loop many conditions used rows p₀ i₀ left₀ p i left = left

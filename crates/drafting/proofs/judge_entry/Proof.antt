@@ -79,7 +79,7 @@ judge-times-requires : tie.Need-judge-times-requires
 judge-times-requires c κs =
     let g = c .before .before in
     let k = g .before .before .judge-conditions .ensures .0 .on _ (g .by-conditions .given .1) in
-    (k .1 .0, k .1 .1, not-far (k .0) (λ e. omega (arith, k .1 .1)))
+    (k .1 .0, k .1 .1, not-far (k .0))
 
 returns-3 : tie.Need-returns-3
 returns-3 c =

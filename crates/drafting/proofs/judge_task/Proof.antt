@@ -8,6 +8,7 @@ use borrow.Author.Needs.{needs}
 use Rattle.tables.specs.Rows.{countColumn}
 use Rattle.study.specs.Reading.{task}
 use Rattle.judging.specs.Faults.{taskFault}
+use Rattle.judging.proofs.Bounds.{task-bounds}
 use Rattle.entering.specs.Steps.{afterTask}
 use Rattle.pacing.proofs.Kept.{task-kept}
 use Rattle.drafting.proofs.Turns.{task-early, task-wanted, no-task-wanted, next-task, not-far}
@@ -24,7 +25,7 @@ returns c =
 add-on-task : tie.Need-add-on-task
 add-on-task c =
     let (bounds, may) = c .before .before .before .pre in
-    omega (arith, not-far bounds (task-early may))
+    omega (arith, not-far bounds)
 
 on-task-requires : tie.Need-on-task-requires
 on-task-requires c κs = search needs
@@ -34,14 +35,13 @@ fault-of s = taskFault (countColumn (now (s .args .rows))) (s .args .p .vars) (s
 
 returns-2 : tie.Need-returns-2
 returns-2 c =
-    let f = c .before .before .before in
+    let f = c .before .before in
     let s = f .before .before in
     let a = s .args in
     let (bounds, may) = s .pre in
-    let e = c .on-task .ensures in
-    rw (e .0, e .1 .0) (
+    rw (c .on-task .ensures) (
       keeps-unless (λ b. countColumn (now (a .rows))) _ (a .p) (afterTask (a .p) _) (fault-of s)
-          (λ z. (task-kept bounds _ (a .v) (a .start) (a .goal) z (task-early may) refl, next-task refl)),
+          (λ z. (task-kept bounds _ (a .v) (a .start) (a .goal) z (task-early may) refl, (next-task refl, omega (arith, task-bounds _ z .0, task-bounds _ z .1, bounds .few-vars)))),
       λ file rest h. task-leads (a .v) (a .start) (a .goal) (task-wanted (a .p .last) may (f .if1 .left)) h (fault-of s) refl,
     )
 

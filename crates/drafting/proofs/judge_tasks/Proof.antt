@@ -1,8 +1,8 @@
--- `drafting::judge_tasks` meets its contract: each turn judges one task, and those behind it come next; one that is cut short is refused.
+-- `drafting::judge_tasks` meets its contract: each turn judges one task, and those that are left come next.
 -- Assumes nothing.
-use Prim.Native.Nat.{ℕ, _+_, _-_, _≤_, _<_}
-use denote.Ref.{now}
+use Prim.Native.Nat.{ℕ, _+_, _-_, _*_, _≤_}
 use native.Mathlib.Omega.{arith}
+use mathlib.Core.Path.{_≡_, refl}
 use mathlib.Core.List.{List, _++_, map}
 use lib.ListN.{length, drop}
 use borrow.Author.Needs.{needs}
@@ -10,98 +10,69 @@ use Rattle.study.specs.Reading.{Record}
 use Rattle.tables.specs.Rows.{countColumn}
 use Rattle.pacing.specs.Reads.{Bounds}
 use Rattle.spelling.specs.Lists.{taskRecord}
-use Rattle.spelling.specs.Lent.{errandsIn}
+use Rattle.spelling.specs.Lent.{unlentErrand, errandsIn, firstOf}
 use Rattle.drafting.specs.Drafts.{TasksGoOn, Drafted}
 use Rattle.drafting.proofs.Stops.{on-keeps, on-leads, stopped-keeps, stopped-leads}
-use Rattle.drafting.proofs.LentBytes.{task-lent, no-task, task-unlent}
+use Rattle.drafting.proofs.LentBytes.{next-task, no-task}
 use Rattle.drafting.proofs.judge_tasks.Statement.{statement}
 use Rattle.drafting.proofs.judge_tasks.Tie as tie
 
 abbrev Inv-loop : tie.InvT-loop
-Inv-loop tasks rows₀ p₀ i₀ rows p i =
+Inv-loop many tasks used rows p₀ i₀ left₀ p i left =
     Bounds p (countColumn rows)
-    × ((TasksGoOn (p .last) × (i ≤ length tasks))
+    × ((TasksGoOn (p .last) × (i ≤ length tasks) × (i + 3 * left ≡ used + 3 * many))
     × ((file : List ℕ) (rest : List Record)
-    → Drafted file (countColumn rows₀) p₀ (map taskRecord (errandsIn tasks) ++ rest)
-    → Drafted file (countColumn rows) p (map taskRecord (errandsIn (drop i tasks)) ++ rest)))
+    → Drafted file (countColumn rows) p₀ (map taskRecord (firstOf unlentErrand many (errandsIn (drop used tasks))) ++ rest)
+    → Drafted file (countColumn rows) p (map taskRecord (firstOf unlentErrand left (errandsIn (drop i tasks))) ++ rest)))
 
 abbrev μ-loop : tie.MeasureT-loop
-μ-loop tasks rows₀ p₀ i₀ rows p i = length tasks - i
+μ-loop many tasks used rows p₀ i₀ left₀ p i left = left
 
 loop-holds : tie.Need-loop-holds Inv-loop μ-loop
-loop-holds c = let (bounds, low) = c .before .pre in (bounds, ((low, omega arith), λ file rest h. h))
+loop-holds c = let (bounds, may, in-bytes) = c .before .pre in (bounds, ((may, in-bytes, refl), λ file rest h. h))
 
-sub-loop : tie.Need-sub-loop Inv-loop μ-loop
-sub-loop c = search needs
-
-shared-slice-read-judge-task : tie.Need-shared-slice-read-judge-task Inv-loop μ-loop
-shared-slice-read-judge-task c = search needs
-
-add-judge-task : tie.Need-add-judge-task Inv-loop μ-loop
-add-judge-task c = search needs
-
-shared-slice-read-judge-task-2 : tie.Need-shared-slice-read-judge-task-2 Inv-loop μ-loop
-shared-slice-read-judge-task-2 c = search needs
-
-add-judge-task-2 : tie.Need-add-judge-task-2 Inv-loop μ-loop
-add-judge-task-2 c = search needs
-
-shared-slice-read-judge-task-3 : tie.Need-shared-slice-read-judge-task-3 Inv-loop μ-loop
-shared-slice-read-judge-task-3 c = search needs
-
-judge-task-requires : tie.Need-judge-task-requires Inv-loop μ-loop
-judge-task-requires c κs = let i = c .before .before .before .before .before .loop .inv in (i .0, i .1 .0 .0)
+judge-lent-requires : tie.Need-judge-lent-requires Inv-loop μ-loop
+judge-lent-requires c κs = let (bounds, (sure, _)) = c .before .loop .inv in (bounds, sure .0, sure .1)
 
 enum-known-step : tie.Need-enum-known-step Inv-loop μ-loop
 enum-known-step c = search needs
 
 returns : tie.Need-returns Inv-loop μ-loop
 returns c =
-    let l = c .before .before .before .before .before .before .before .loop in
-    let here : l .i + 3 ≤ length (now (c .before .before .before .before .before .before .before .before .before .args .tasks)) = omega arith in (
+    let l = c .before .before .before .loop in
+    let here : l .left ≡ l .left - 1 + 1 = omega arith in (
       stopped-keeps (c .match .keys2),
       λ file rest h. stopped-leads (c .match .keys2)
-          (c .before .judge-task .ensures .1 file _ (rw (task-lent _ (l .i) rest here) at (l .inv .1 .1 file rest h))),
+          (c .before .judge-lent .ensures .1 file _ (rw (next-task _ (l .i) (l .left) (l .left - 1) rest here) at (l .inv .1 .1 file rest h))),
     )
 
 add-i : tie.Need-add-i Inv-loop μ-loop
-add-i c = search needs
+add-i c = omega (arith, c .before .before .before .judge-lent .ensures .0 .on _ (c .before .step .given .1) .1 .1)
+
+sub-left : tie.Need-sub-left Inv-loop μ-loop
+sub-left c = search needs
 
 loop-less : tie.Need-loop-less Inv-loop μ-loop
 loop-less c = search needs
 
 loop-again : tie.Need-loop-again Inv-loop μ-loop
 loop-again c =
-    let l = c .before .before .before .before .before .before .before .before .before .loop in
-    let here : l .i + 3 ≤ length (now (c .before .before .before .before .before .before .before .before .before .before .before .args .tasks)) = omega arith in
-    let e = c .before .before .before .judge-task .ensures in
+    let l = c .before .before .before .before .before .loop in
+    let here : l .left ≡ l .left - 1 + 1 = omega arith in
+    let e = c .before .before .before .judge-lent .ensures in
     let k = e .0 .on _ (c .before .step .given .1) in (
       k .0,
       (
-        (k .1, omega arith),
-        λ file rest h. e .1 file _ (rw (task-lent _ (l .i) rest here) at (l .inv .1 .1 file rest h)) .on _ (c .before .step .given .1),
+        (k .1 .0, k .1 .1, omega (arith, l .inv .1 .0 .2)),
+        λ file rest h. e .1 file _ (rw (next-task _ (l .i) (l .left) (l .left - 1) rest here) at (l .inv .1 .1 file rest h)) .on _ (c .before .step .given .1),
       ),
     )
 
 returns-2 : tie.Need-returns-2 Inv-loop μ-loop
 returns-2 c =
-    let l = c .before .before .loop in
-    let here : length (now (c .before .before .before .before .args .tasks)) ≤ l .i = omega arith in
-    (on-keeps (l .inv .0) (l .inv .1 .0 .0), λ file rest h. on-leads (rw (no-task _ (l .i) rest here) at (l .inv .1 .1 file rest h)))
-
-judge-task-requires-2 : tie.Need-judge-task-requires-2 Inv-loop μ-loop
-judge-task-requires-2 c κs = let i = c .before .before .before .loop .inv in (i .0, i .1 .0 .0)
-
-returns-3 : tie.Need-returns-3 Inv-loop μ-loop
-returns-3 c =
-    let l = c .before .before .before .before .loop in
-    let s = c .before .before .before .before .before .before in
-    let some : l .i < length (now (s .args .tasks)) = omega arith in
-    let few : length (now (s .args .tasks)) < l .i + 3 = omega arith in
-    let e = c .judge-task2 .ensures in (
-      e .0,
-      λ file rest h. e .1 file rest (rw (task-unlent _ (l .i) rest some few) at (l .inv .1 .1 file rest h)),
-    )
+    let (bounds, (sure, reached)) = c .before .loop .inv in
+    let none : c .before .loop .left ≡ 0 = omega arith in
+    (on-keeps bounds (sure .0, omega (arith, sure .2)), λ file rest h. on-leads (rw (none, no-task) at (reached file rest h)))
 
 pub judge-tasks-spec : {M : Type 1} → statement M
 judge-tasks-spec =
@@ -110,18 +81,11 @@ judge-tasks-spec =
     Inv-loop
     μ-loop
     loop-holds
-    sub-loop
-    shared-slice-read-judge-task
-    add-judge-task
-    shared-slice-read-judge-task-2
-    add-judge-task-2
-    shared-slice-read-judge-task-3
-    judge-task-requires
+    judge-lent-requires
     enum-known-step
     returns
     add-i
+    sub-left
     loop-less
     loop-again
-    returns-2
-    judge-task-requires-2
-    returns-3)
+    returns-2)

@@ -18,7 +18,7 @@ use Rattle.drafting.proofs.judge_variable.Tie as tie
 add-on-variable : tie.Need-add-on-variable
 add-on-variable c =
     let (bounds, may) = c .before .pre in
-    omega (arith, not-far bounds (variable-early may))
+    omega (arith, not-far bounds)
 
 on-variable-requires : tie.Need-on-variable-requires
 on-variable-requires c κs = search needs

@@ -1,58 +1,52 @@
--- `explain::print` keeps to what it calls: a refusal has its number, and what answer 0 leaves is a straight plan.
+-- `explain::print` keeps to what it calls: each crew that it takes is there.
 -- Assumes nothing.
+use Prim.Native.Nat.{_-_, _≤_}
 use native.Mathlib.Omega.{arith}
-use mathlib.Core.Path.{sym}
-use lib.Seq.{length-take-le}
-use denote.Ref.{now}
 use borrow.Author.Needs.{needs}
-use Rattle.explain.proofs.Planned.{seeded-straight}
 use Rattle.explain.proofs.print.Statement.{statement}
 use Rattle.explain.proofs.print.Tie as tie
 
-slice-aggregate-plan-seeded : tie.Need-slice-aggregate-plan-seeded
-slice-aggregate-plan-seeded c = search needs
+abbrev Inv-loop : tie.InvT-loop
+Inv-loop file many crew₀ crew = crew ≤ many
 
-plan-seeded-requires : tie.Need-plan-seeded-requires
-plan-seeded-requires c κs = search needs
+abbrev μ-loop : tie.MeasureT-loop
+μ-loop file many crew₀ crew = many - crew
 
-print-refusal-requires : tie.Need-print-refusal-requires
-print-refusal-requires c κs = search needs
+in-file-requires : tie.Need-in-file-requires Inv-loop μ-loop
+in-file-requires c κs = search needs
 
-returns : tie.Need-returns
+loop-holds : tie.Need-loop-holds Inv-loop μ-loop
+loop-holds c = search needs
+
+print-crew-requires : tie.Need-print-crew-requires Inv-loop μ-loop
+print-crew-requires c κs = search needs
+
+print-for-requires : tie.Need-print-for-requires Inv-loop μ-loop
+print-for-requires c κs = omega (arith, c .before .before .before .in-file .ensures)
+
+add-crew : tie.Need-add-crew Inv-loop μ-loop
+add-crew c = search needs
+
+loop-less : tie.Need-loop-less Inv-loop μ-loop
+loop-less c = search needs
+
+loop-again : tie.Need-loop-again Inv-loop μ-loop
+loop-again c = search needs
+
+returns : tie.Need-returns Inv-loop μ-loop
 returns c = search needs
-
-array-share-prefix-plan : tie.Need-array-share-prefix-plan
-array-share-prefix-plan c =
-    let made = c .before .before .before in
-    let p = seeded-straight _ _ (made .plan-seeded .ensures) (c .if1 .left) in
-    omega (arith, p .few, made .plan-seeded .kept .1 .0)
-
-slice-aggregate-print-plan : tie.Need-slice-aggregate-print-plan
-slice-aggregate-print-plan c =
-    let made = c .before .before .before .before in
-    let p = seeded-straight _ _ (made .plan-seeded .ensures) (c .before .if1 .left) in
-    sym (length-take-le (made .plan-seeded .result .first) (made .plan-seeded .last .1 .0) (omega (arith, p .few, made .plan-seeded .kept .1 .0)))
-
-print-plan-requires : tie.Need-print-plan-requires
-print-plan-requires c κs =
-    let made = c .before .before .before .before in
-    let p = seeded-straight _ _ (made .plan-seeded .ensures) (c .before .if1 .left) in (
-      omega (arith, p .few, length-take-le (made .plan-seeded .result .first) (made .plan-seeded .last .1 .0) (omega (arith, p .few, made .plan-seeded .kept .1 .0))),
-      (p .study, p .its, p .plan),
-    )
-
-returns-2 : tie.Need-returns-2
-returns-2 c = search needs
 
 pub print-spec : {M : Type 1} → statement M
 print-spec =
     tie.close
     (tie.spec
-    slice-aggregate-plan-seeded
-    plan-seeded-requires
-    print-refusal-requires
-    returns
-    array-share-prefix-plan
-    slice-aggregate-print-plan
-    print-plan-requires
-    returns-2)
+    Inv-loop
+    μ-loop
+    in-file-requires
+    loop-holds
+    print-crew-requires
+    print-for-requires
+    add-crew
+    loop-less
+    loop-again
+    returns)

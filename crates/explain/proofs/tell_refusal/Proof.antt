@@ -33,10 +33,10 @@ returns c =
     let s = w .before .before .before .before in
     let (buffer, plans) = s .pre .2 in (
       counts _ _ (omega (arith, l .lines .ensures .0 .1, l .lines .ensures .0 .0, w .why .ensures .0 .0, p .refused .ensures .0, p .refused .kept .1 .0)),
-      refusal-explained (now (s .args .file)) buffer (s .args .answer) _ plans
+      refusal-explained (now (s .args .file)) (s .args .crew) buffer (s .args .answer) _ plans
           (λ t said. let (list, (why, rows)) = w .why .ensures .1 .0 t said in (list, (why, l .lines .ensures .1 list rows .text ∙ ap (λ (a : List ℕ). a ++ factLines list) (p .refused .ensures .1))))
           (λ number place said.
-          l .lines .ensures .1 [] (ap (λ (k : ℕ). take k (w .why .last .1 .1 .1 .1 .0)) (w .why .ensures .1 .1 number place said)) .text
+          l .lines .ensures .1 [] (ap (λ (k : ℕ). take k (w .why .last .1 .1 .1 .1 .1 .0)) (w .why .ensures .1 .1 number place said)) .text
           ∙ no-lines _ ∙ p .refused .ensures .1),
     )
 

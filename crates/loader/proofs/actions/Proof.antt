@@ -30,7 +30,7 @@ abbrev Inv-loop : tie.InvT-loop
 Inv-loop file acts₀ rows p₀ acts p =
     (Safe file p (countColumn rows) × (p₀ .at ≤ p .at))
     × ((p .last ≡ 2)
-    × ((setters : List ℕ) → Halfway file (seenAll acts₀ rows setters) p₀ → Halfway file (seenAll acts rows setters) p))
+    × ((setters begins : List ℕ) → Halfway file (seenAll acts₀ rows setters) begins p₀ → Halfway file (seenAll acts rows setters) begins p))
 
 abbrev μ-loop : tie.MeasureT-loop
 μ-loop file acts₀ rows p₀ acts p = length file - p .at
@@ -77,25 +77,25 @@ next-is c =
     went-on (fault-of e) (run-of e .at) (after e) (c .before .before .before .on-action .ensures .0) (c .before .step .given .1)
 
 taken :
-    (c : tie.After-known-told Inv-loop μ-loop) (setters : List ℕ)
+    (c : tie.After-known-told Inv-loop μ-loop) (setters begins : List ℕ)
     → Answers (file-of (c .before .before .before .before .before .before .before .before)) (run-of (c .before .before .before .before .before .before .before .before))
-    (held (c .before .before .before .before .before .before .before .before) setters)
+    (held (c .before .before .before .before .before .before .before .before) setters) begins
     (seenAll (c .before .before .before .on-action .last .1 .1 .1 .1 .1 .1 .0) (now (c .before .before .before .before .before .before .before .before .before .before .before .before .before .before .before .before .args .rows)) setters)
-    (On (c .before .step .given .0 .0))
-taken c setters =
+    begins (On (c .before .step .given .0 .0))
+taken c setters begins =
     let m = c .before .before in
     let t = m .before in
     let e = t .before .before .before .before .before in
     let ((safe, _), (may, _)) = e .before .before .whole-action .ensures in
     rw (next-is c, t .on-action .ensures .1 setters)
-    (action-taken (file-of e) (run-of e) (held e setters) safe may (is-there e) _ _ _ refl refl refl (fault-of e) refl
+    (action-taken (file-of e) (run-of e) (held e setters) begins safe may (is-there e) _ _ _ refl refl refl (fault-of e) refl
     (faultless (fault-of e) (run-of e .at) (after e) (t .on-action .ensures .0) (m .match .keys1)))
 
 returns : tie.Need-returns Inv-loop μ-loop
 returns c = search needs
 
 loop-holds : tie.Need-loop-holds Inv-loop μ-loop
-loop-holds c = ((c .before .before .before .pre, omega arith), (c .if1 .left, λ setters h. h))
+loop-holds c = ((c .before .before .before .pre, omega arith), (c .if1 .left, λ setters begins h. h))
 
 whole-action-requires : tie.Need-whole-action-requires Inv-loop μ-loop
 whole-action-requires c κs = let ((safe, _), (last, _)) = c .before .loop .inv in (safe, last)
@@ -107,7 +107,7 @@ returns-2 : tie.Need-returns-2 Inv-loop μ-loop
 returns-2 c =
     let w = c .before .before in
     let ((_, further), (_, reached)) = w .before .before .loop .inv in
-    ((w .whole-action .ensures .0 .0, omega (arith, w .whole-action .ensures .0 .1)), λ setters h. w .whole-action .ensures .1 .1 setters (reached setters h))
+    ((w .whole-action .ensures .0 .0, omega (arith, w .whole-action .ensures .0 .1)), λ setters begins h. w .whole-action .ensures .1 .1 setters begins (reached setters begins h))
 
 add-on-action : tie.Need-add-on-action Inv-loop μ-loop
 add-on-action c = omega (arith, inside c)
@@ -135,7 +135,7 @@ on-action-requires c κs =
     let e = c .before .before .before .before in
     let w = e .before .before in
     let ((safe, _), (may, _)) = w .whole-action .ensures in
-    (safe .bounds .few-vars, omega (arith, action-place _ _ _ _ (held e []) safe (is-there e) may))
+    (safe .bounds .few-vars, omega (arith, action-place _ _ _ _ (held e []) [] safe (is-there e) may))
 
 enum-known-step : tie.Need-enum-known-step Inv-loop μ-loop
 enum-known-step c = search needs
@@ -147,13 +147,13 @@ returns-3 c =
     let w = e .before .before in
     let ((_, further), (_, reached)) = w .before .before .loop .inv in (
       (w .whole-action .ensures .0 .0, omega (arith, w .whole-action .ensures .0 .1)),
-      λ setters h. rw (unchanged c setters) (w .whole-action .ensures .1 .1 setters (reached setters h)),
+      λ setters begins h. rw (unchanged c setters) (w .whole-action .ensures .1 .1 setters begins (reached setters begins h)),
     )
 
 loop-less : tie.Need-loop-less Inv-loop μ-loop
 loop-less c =
     let w = c .before .before .before .before .before .before .before .before .before .before in
-    let t = taken c [] .0 in
+    let t = taken c [] [] .0 in
     omega (arith, t .0, t .1 .inside, w .whole-action .ensures .0 .1)
 
 loop-again : tie.Need-loop-again Inv-loop μ-loop
@@ -161,8 +161,8 @@ loop-again c =
     let w = c .before .before .before .before .before .before .before .before .before .before in
     let ((safe, further), (_, whole)) = w .whole-action .ensures in
     let ((_, before), (_, reached)) = w .before .before .loop .inv in
-    let t = taken c [] .0 in
-    ((t .1, omega (arith, t .0)), (ap (λ (p : Progress). p .last) (next-is c), λ setters h. goes-on safe (whole setters (reached setters h)) (taken c setters)))
+    let t = taken c [] [] .0 in
+    ((t .1, omega (arith, t .0)), (ap (λ (p : Progress). p .last) (next-is c), λ setters begins h. goes-on safe (whole setters begins (reached setters begins h)) (taken c setters begins)))
 
 pub actions-spec : {M : Type 1} → statement M
 actions-spec =

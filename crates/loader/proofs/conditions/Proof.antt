@@ -26,9 +26,9 @@ abbrev Inv-loop : tie.InvT-loop
 Inv-loop file rows p₀ p =
     Safe file p (countColumn rows)
     × (((2 ≤ p .last) × (p .last ≤ 3) × (p₀ .at ≤ p .at))
-    × ((acts : ActionTables) (starts goals : List ℕ)
-    → Halfway file (tables (countColumn rows) acts starts goals) p₀
-    → Halfway file (tables (countColumn rows) (withMany acts (p .actions - 1) (p .many)) starts goals) p))
+    × ((acts : ActionTables) (starts goals begins : List ℕ)
+    → Halfway file (tables (countColumn rows) acts starts goals) begins p₀
+    → Halfway file (tables (countColumn rows) (withMany acts (p .actions - 1) (p .many)) starts goals) begins p))
 
 abbrev μ-loop : tie.MeasureT-loop
 μ-loop file rows p₀ p = length file - p .at
@@ -46,7 +46,7 @@ inside c = omega (arith, there-lies _ _ (is-there c) .whole)
 loop-holds : tie.Need-loop-holds Inv-loop μ-loop
 loop-holds c =
     let (safe, (low, high)) = c .before .pre in
-    (safe, ((low, high, omega arith), λ acts starts goals h. many-entered low high acts safe h))
+    (safe, ((low, high, omega arith), λ acts starts goals begins h. many-entered low high acts safe h))
 
 is-at-requires : tie.Need-is-at-requires Inv-loop μ-loop
 is-at-requires c κs = search needs
@@ -100,7 +100,7 @@ loop-again c =
       record { inside = inside e; bounds = condition-kept (safe .bounds) _ _ _ good low high refl },
       (
         (omega arith, omega arith, omega arith),
-        λ acts starts goals h. condition-taken low high acts safe (is-there e) _ _ refl refl good (reached acts starts goals h),
+        λ acts starts goals begins h. condition-taken low high acts safe (is-there e) _ _ refl refl good (reached acts starts goals begins h),
       ),
     )
 

@@ -1,6 +1,6 @@
 -- `loader::tasks` meets its contract: each turn takes one task, while a variable is left.
 -- Assumes nothing.
-use mathlib.Core.Path.{_≡_, refl, ap, _∙_}
+use mathlib.Core.Path.{_≡_, refl, ap}
 use mathlib.Core.List.{List, []}
 use Prim.Native.Nat.{ℕ, _+_, _-_, _≤_, _<_}
 use native.Mathlib.Omega.{arith}
@@ -11,8 +11,8 @@ use borrow.Author.Tests.{not-false}
 use Rattle.records.specs.Records.{recordAt, bodyLength, bodyLengths}
 use Rattle.records.specs.declared.Found.the-variants.{There}
 use Rattle.records.proofs.Laws.{there-lies}
-use Rattle.tables.specs.Tables.{ActionTables}
-use Rattle.tables.specs.Rows.{Row, countColumn, startColumn, goalColumn, seen}
+use Rattle.tables.specs.Tables.{ActionTables, tables}
+use Rattle.tables.specs.Rows.{Row, countColumn, seen}
 use Rattle.judging.specs.Faults.{taskFault}
 use Rattle.entering.specs.declared.Progress.{Progress}
 use Rattle.entering.specs.declared.Step.the-variants.{On}
@@ -20,20 +20,22 @@ use Rattle.entering.specs.Steps.{afterTask}
 use Rattle.entering.proofs.Judged.{goes-on as faultless, stops, went-on}
 use Rattle.pacing.specs.Reads.{Safe}
 use Rattle.pacing.proofs.Arms.{Answers}
-use Rattle.loader.specs.Halfway.{Halfway, beside}
+use Rattle.loader.specs.Halfway.{Halfway}
 use Rattle.loader.proofs.Pass.{goes-on}
 use Rattle.loader.proofs.Runs.{task-taken}
 use Rattle.loader.proofs.tasks.Statement.{statement}
 use Rattle.loader.proofs.tasks.Tie as tie
 
 abbrev Inv-loop : tie.InvT-loop
-Inv-loop file rows₀ p₀ rows p =
+Inv-loop file rows p₀ p =
     (Safe file p (countColumn rows) × (p₀ .at ≤ p .at))
     × ((p .last ≡ 4)
-    × ((acts : ActionTables) → Halfway file (beside rows₀ acts) p₀ → Halfway file (beside rows acts) p))
+    × ((acts : ActionTables) (starts goals begins : List ℕ)
+    → Halfway file (tables (countColumn rows) acts starts goals) begins p₀
+    → Halfway file (tables (countColumn rows) acts starts goals) begins p))
 
 abbrev μ-loop : tie.MeasureT-loop
-μ-loop file rows₀ p₀ rows p = length file - p .at
+μ-loop file rows p₀ p = length file - p .at
 
 -- where a task has been found, and a variable is left: the file, how far it has been read, the rows, what is found
 abbrev Found : Type 0
@@ -46,7 +48,7 @@ abbrev run-of : Found → Progress
 run-of e = e .before .before .before .before .loop .p
 
 abbrev rows-of : Found → List Row
-rows-of e = e .before .before .before .before .loop .rows
+rows-of e = now (e .before .before .before .before .before .before .before .before .args .rows)
 
 abbrev byte : Found → ℕ → ℕ
 byte e i = getD (file-of e) (run-of e .at + i) 0
@@ -67,43 +69,32 @@ inside e = omega (arith, there-lies _ _ (is-there e) .whole)
 is-left : (e : Found) → run-of e .tasks < run-of e .vars
 is-left e = omega (arith, e .before .before .if2 .left)
 
--- a task with a fault leaves the tables as they were
-starts-unchanged :
-    (c : tie.At-match-keys2 Inv-loop μ-loop)
-    → startColumn (c .before .on-task .last .1 .1 .1 .1 .1 .0) ≡ startColumn (rows-of (c .before .before .before .before .before .before))
-starts-unchanged c = c .before .on-task .ensures .1 .1 ∙ rw (stops _ _ _ (c .before .on-task .ensures .0) (c .match .keys2))
-
-goals-unchanged :
-    (c : tie.At-match-keys2 Inv-loop μ-loop)
-    → goalColumn (c .before .on-task .last .1 .1 .1 .1 .1 .0) ≡ goalColumn (rows-of (c .before .before .before .before .before .before))
-goals-unchanged c = c .before .on-task .ensures .1 .2 ∙ rw (stops _ _ _ (c .before .on-task .ensures .0) (c .match .keys2))
-
--- .. and one without is entered
-next-is : (c : tie.After-known-told Inv-loop μ-loop) → c .before .step .given .0 .0 ≡ after (c .before .before .before .before .before .before .before .before)
+-- a task without fault
+next-is : (c : tie.After-known-told Inv-loop μ-loop) → c .before .step .given .0 .0 ≡ after (c .before .before .before .before .before .before .before)
 next-is c =
-    let e = c .before .before .before .before .before .before .before .before in
-    went-on (fault-of e) (run-of e .at) (after e) (c .before .before .before .on-task .ensures .0) (c .before .step .given .1)
+    let e = c .before .before .before .before .before .before .before in
+    went-on (fault-of e) (run-of e .at) (after e) (c .before .before .before .on-task .ensures) (c .before .step .given .1)
 
 taken :
-    (c : tie.After-known-told Inv-loop μ-loop) (acts : ActionTables)
-    → Answers (file-of (c .before .before .before .before .before .before .before .before)) (run-of (c .before .before .before .before .before .before .before .before))
-    (beside (rows-of (c .before .before .before .before .before .before .before .before)) acts)
-    (beside (c .before .before .before .on-task .last .1 .1 .1 .1 .1 .0) acts)
+    (c : tie.After-known-told Inv-loop μ-loop) (acts : ActionTables) (starts goals begins : List ℕ)
+    → Answers (file-of (c .before .before .before .before .before .before .before)) (run-of (c .before .before .before .before .before .before .before))
+    (tables (countColumn (rows-of (c .before .before .before .before .before .before .before))) acts starts goals) begins
+    (tables (countColumn (rows-of (c .before .before .before .before .before .before .before))) acts starts goals) begins
     (On (c .before .step .given .0 .0))
-taken c acts =
+taken c acts starts goals begins =
     let m = c .before .before in
     let t = m .before in
-    let e = t .before .before .before .before .before in
+    let e = t .before .before .before .before in
     let ((safe, _), (last, _)) = e .before .before .before .before .loop .inv in
-    rw (next-is c, t .on-task .ensures .1 .0, t .on-task .ensures .1 .1, t .on-task .ensures .1 .2)
-    (task-taken (file-of e) (run-of e) (beside (rows-of e) acts) safe last (is-left e) (is-there e) _ _ _ refl refl refl (fault-of e) refl
-    (faultless (fault-of e) (run-of e .at) (after e) (t .on-task .ensures .0) (m .match .keys1)))
+    rw (next-is c)
+    (task-taken (file-of e) (run-of e) (tables (countColumn (rows-of e)) acts starts goals) begins safe last (is-left e) (is-there e) _ _ _ refl refl refl (fault-of e) refl
+    (faultless (fault-of e) (run-of e .at) (after e) (t .on-task .ensures) (m .match .keys1)))
 
 returns : tie.Need-returns Inv-loop μ-loop
 returns c = search needs
 
 loop-holds : tie.Need-loop-holds Inv-loop μ-loop
-loop-holds c = ((c .before .before .before .pre, omega arith), (c .if1 .left, λ acts h. h))
+loop-holds c = ((c .before .before .before .pre, omega arith), (c .if1 .left, λ acts starts goals begins h. h))
 
 returns-2 : tie.Need-returns-2 Inv-loop μ-loop
 returns-2 c = let ((safe, further), (_, reached)) = c .before .before .loop .inv in ((safe, further), reached)
@@ -136,7 +127,7 @@ add-on-task-4 : tie.Need-add-on-task-4 Inv-loop μ-loop
 add-on-task-4 c = omega (arith, inside (c .before .before .before))
 
 on-task-requires : tie.Need-on-task-requires Inv-loop μ-loop
-on-task-requires c κs = c .before .before .before .before .before .before .before .before .loop .inv .0 .0 .bounds .few-vars
+on-task-requires c κs = c .before .before .before .before .before .before .before .loop .inv .0 .0 .bounds .few-vars
 
 enum-known-step : tie.Need-enum-known-step Inv-loop μ-loop
 enum-known-step c = search needs
@@ -144,19 +135,21 @@ enum-known-step c = search needs
 returns-4 : tie.Need-returns-4 Inv-loop μ-loop
 returns-4 c =
     let t = c .before in
-    let ((safe, further), (_, reached)) = t .before .before .before .before .before .before .before .before .before .loop .inv in
-    rw (t .on-task .ensures .1 .0, starts-unchanged c, goals-unchanged c) ((safe, further), reached)
+    let ((safe, further), (_, reached)) = t .before .before .before .before .before .before .before .before .loop .inv in
+    ((safe, further), reached)
 
 loop-less : tie.Need-loop-less Inv-loop μ-loop
 loop-less c =
-    let t = taken c (seen [] []) .0 in
+    let t = taken c (seen [] []) [] [] [] .0 in
     omega (arith, t .0, t .1 .inside)
 
 loop-again : tie.Need-loop-again Inv-loop μ-loop
 loop-again c =
-    let ((safe, further), (_, reached)) = c .before .before .before .before .before .before .before .before .before .before .before .before .loop .inv in
-    let t = taken c (seen [] []) .0 in
-    ((t .1, omega (arith, t .0)), (ap (λ (p : Progress). p .last) (next-is c), λ acts h. goes-on safe (reached acts h) (taken c acts)))
+    let ((safe, further), (_, reached)) = c .before .before .before .before .before .before .before .before .before .before .before .loop .inv in
+    let t = taken c (seen [] []) [] [] [] .0 in (
+      (t .1, omega (arith, t .0)),
+      (ap (λ (p : Progress). p .last) (next-is c), λ acts starts goals begins h. goes-on safe (reached acts starts goals begins h) (taken c acts starts goals begins)),
+    )
 
 pub tasks-spec : {M : Type 1} → statement M
 tasks-spec =

@@ -30,7 +30,7 @@ abbrev Inv-loop : tie.InvT-loop
 Inv-loop file rows₀ p₀ rows p =
     (Safe file p (countColumn rows) × (p₀ .at ≤ p .at))
     × ((p .last ≡ 1)
-    × ((acts : ActionTables) → Halfway file (beside rows₀ acts) p₀ → Halfway file (beside rows acts) p))
+    × ((acts : ActionTables) (begins : List ℕ) → Halfway file (beside rows₀ acts) begins p₀ → Halfway file (beside rows acts) begins p))
 
 abbrev μ-loop : tie.MeasureT-loop
 μ-loop file rows₀ p₀ rows p = length file - p .at
@@ -74,25 +74,25 @@ next-is c =
     went-on (fault-of e) (run-of e .at) (after e) (c .before .before .before .on-variable .ensures .0) (c .before .step .given .1)
 
 taken :
-    (c : tie.After-known-told Inv-loop μ-loop) (acts : ActionTables)
+    (c : tie.After-known-told Inv-loop μ-loop) (acts : ActionTables) (begins : List ℕ)
     → Answers (file-of (c .before .before .before .before .before .before)) (run-of (c .before .before .before .before .before .before))
-    (beside (c .before .before .before .before .before .before .before .before .loop .rows) acts)
-    (beside (c .before .before .before .on-variable .last .1 .1 .1 .0) acts)
+    (beside (c .before .before .before .before .before .before .before .before .loop .rows) acts) begins
+    (beside (c .before .before .before .on-variable .last .1 .1 .1 .0) acts) begins
     (On (c .before .step .given .0 .0))
-taken c acts =
+taken c acts begins =
     let m = c .before .before in
     let t = m .before in
     let e = t .before .before .before in
     let ((safe, _), (last, _)) = e .before .before .loop .inv in
     rw (next-is c, t .on-variable .ensures .1 .0, t .on-variable .ensures .1 .1, t .on-variable .ensures .1 .2)
-    (variable-taken (file-of e) (run-of e) (beside (e .before .before .loop .rows) acts) safe last (is-there e) _ refl
+    (variable-taken (file-of e) (run-of e) (beside (e .before .before .loop .rows) acts) begins safe last (is-there e) _ refl
     (faultless (fault-of e) (run-of e .at) (after e) (t .on-variable .ensures .0) (m .match .keys1)))
 
 returns : tie.Need-returns Inv-loop μ-loop
 returns c = search needs
 
 loop-holds : tie.Need-loop-holds Inv-loop μ-loop
-loop-holds c = ((c .before .before .before .pre, omega arith), (c .if1 .left, λ acts h. h))
+loop-holds c = ((c .before .before .before .pre, omega arith), (c .if1 .left, λ acts begins h. h))
 
 is-at-requires : tie.Need-is-at-requires Inv-loop μ-loop
 is-at-requires c κs = search needs
@@ -123,14 +123,14 @@ returns-3 c =
 
 loop-less : tie.Need-loop-less Inv-loop μ-loop
 loop-less c =
-    let t = taken c (seen [] []) .0 in
+    let t = taken c (seen [] []) [] .0 in
     omega (arith, t .0, t .1 .inside)
 
 loop-again : tie.Need-loop-again Inv-loop μ-loop
 loop-again c =
     let ((safe, further), (_, reached)) = c .before .before .before .before .before .before .before .before .loop .inv in
-    let t = taken c (seen [] []) .0 in
-    ((t .1, omega (arith, t .0)), (ap (λ (p : Progress). p .last) (next-is c), λ acts h. goes-on safe (reached acts h) (taken c acts)))
+    let t = taken c (seen [] []) [] .0 in
+    ((t .1, omega (arith, t .0)), (ap (λ (p : Progress). p .last) (next-is c), λ acts begins h. goes-on safe (reached acts begins h) (taken c acts begins)))
 
 pub variables-spec : {M : Type 1} → statement M
 variables-spec =

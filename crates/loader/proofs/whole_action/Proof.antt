@@ -79,7 +79,7 @@ returns c =
     let after = went-on f (run .at) told (t .on-times .ensures .0) (c .before .step .given .1) in
     rw after (
       (record { inside = inside i; bounds = times-kept (safe .bounds) _ low high refl }, omega arith),
-      (may-action-after-times _, λ setters h. rw (t .on-times .ensures .1 setters) (times-taken low high (seen setters (now (i .before .before .before .before .args .acts))) safe (is-there i) _ refl good (reached _ _ _ h))),
+      (may-action-after-times _, λ setters begins h. rw (t .on-times .ensures .1 setters) (times-taken low high (seen setters (now (i .before .before .before .before .args .acts))) safe (is-there i) _ refl good (reached _ _ _ _ h))),
     )
 
 sub-enter-many : tie.Need-sub-enter-many
@@ -98,7 +98,7 @@ returns-2 c =
       (safe, further),
       (
         may-action _ low high,
-        λ setters h. rw (c .enter-many .ensures setters ∙ ap (λ t. withMany t (run .actions - 1) (run .many)) (unchanged j setters)) (reached _ _ _ h),
+        λ setters begins h. rw (c .enter-many .ensures setters ∙ ap (λ t. withMany t (run .actions - 1) (run .many)) (unchanged j setters)) (reached _ _ _ _ h),
       ),
     )
 

@@ -25,7 +25,7 @@ returns c =
     let less = a .before .if1 .taken in
     let f = a .before .before .before in (
       λ file counts at. tt,
-      λ file counts starts goals d e last few s.
+      λ file counts starts goals begins d e s.
           ends-with-7 s (f .fill .ensures .1 file _ _ (s .actions) (s .sized .setters)) _ less
           (c .record-place .ensures (omega (arith, a .action-at .ensures .place, s .places _ less)) ∙ a .action-at .ensures .place),
     )
@@ -49,7 +49,7 @@ returns-2 c =
     let n = w .before .before in
     let f = n .before .before in (
       λ file counts at. tt,
-      λ file counts starts goals d e last few s.
+      λ file counts starts goals begins d e s.
           ends-with-21 s (f .fill .ensures .1 file _ _ (s .actions) (s .sized .setters)) _ (all-named n)
           (unused-is (s .knows) (lowest w) (c .if2 .taken)),
     )
@@ -60,7 +60,7 @@ returns-3 c =
     let n = w .before .before in
     let f = n .before .before in (
       λ file counts at. tt,
-      λ file counts starts goals d e last few s.
+      λ file counts starts goals begins d e s.
           ends-with-8 s (f .fill .ensures .1 file _ _ (s .actions) (s .sized .setters)) _ (all-named n)
           (none-is-unused (s .knows) (lowest w) (omega (arith, c .before .if2 .left)))
           (omega (arith, e, c .if3 .taken)),
@@ -72,10 +72,10 @@ returns-4 c =
     let n = w .before .before in
     let f = n .before .before in (
       λ file counts at. tt,
-      λ file counts starts goals d e last few s.
+      λ file counts starts goals begins d e s.
           ends-well s (f .fill .ensures .1 file _ _ (s .actions) (s .sized .setters)) _ (all-named n)
           (none-is-unused (s .knows) (lowest w) (omega (arith, c .before .if2 .left)))
-          (omega (arith, e, c .if3 .left)) last few,
+          (omega (arith, e, c .if3 .left)),
     )
 
 pub on-end-spec : {M : Type 1} → statement M

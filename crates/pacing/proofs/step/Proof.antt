@@ -34,7 +34,7 @@ not-there-requires c κs = search needs
 returns : tie.Need-returns
 returns c =
     let s = c .before .before .before .before in
-    rw (c .not-there .ensures) (not-there-arm (now (s .args .file)) (s .args .p) (held s) _ (sym (c .before .before .record-from .ensures)) (c .before .match .keys2))
+    rw (c .not-there .ensures) (not-there-arm (now (s .args .file)) (s .args .p) (held s) (now (s .args .crews)) _ (sym (c .before .before .record-from .ensures)) (c .before .match .keys2))
 
 may-follow-requires : tie.Need-may-follow-requires
 may-follow-requires c κs = search needs
@@ -45,7 +45,7 @@ returns-2 c =
 
 take-requires : tie.Need-take-requires
 take-requires c κs =
-    let e = c .before .before .before in
+    let e = c .before .before .before .before in
     let m = e .before in
     let f = m .before .before .before in
     (f .before .before .before .before .pre, (_, is-there f, not-left (m .may-follow .ensures) (e .if1 .left)))

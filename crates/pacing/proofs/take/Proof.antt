@@ -2,6 +2,7 @@
 -- Assumes nothing.
 use mathlib.Core.Path.{_≡_, refl}
 use mathlib.Core.Bool.{true}
+use mathlib.Core.List.{List}
 use Prim.Native.Nat.{ℕ, _+_, _≤_}
 use native.Mathlib.Omega.{arith}
 use native.Mathlib.Decide.{ℕ-discrete}
@@ -14,13 +15,16 @@ use Rattle.records.proofs.Laws.{there-lies, beyond-the-kinds}
 use Rattle.study.specs.Reading.{mayFollow}
 use Rattle.tables.specs.Tables.{Tables}
 use Rattle.tables.specs.Rows.{seenAll}
-use Rattle.pacing.proofs.Arms.{body-inside, where-it-ends, action-place, condition-action, times-action, variable-arm, action-arm, condition-arm, task-arm, seed-arm, times-arm, present-arm, end-last, end-verdict}
+use Rattle.pacing.proofs.Arms.{body-inside, where-it-ends, action-place, condition-action, times-action, variable-arm, action-arm, condition-arm, task-arm, seed-arm, times-arm, present-arm, end-verdict, seed-place, crew-arm}
 use borrow.Author.Needs.{needs}
 use Rattle.pacing.proofs.take.Statement.{statement}
 use Rattle.pacing.proofs.take.Tie as tie
 
 abbrev held : tie.Start → Tables
 held s = seenAll (now (s .args .acts)) (now (s .args .vars)) (now (s .args .setters))
+
+abbrev begun : tie.Start → List ℕ
+begun s = now (s .args .crews)
 
 is-there : (s : tie.Start) (k : ℕ) → s .args .kind ≡ k → recordAt (now (s .args .file)) (s .args .p .at) ≡ There k (s .args .start) (s .args .start + bodyLength k)
 is-there s k e = where-it-ends _ _ (rw e at (s .pre .1 .1))
@@ -89,7 +93,7 @@ on-action-requires c κs =
     let m = c .before .before .before .before .before in
     let s = m .before .before in
     let safe = s .pre .0 in
-    (safe .bounds .few-vars, action-place _ _ _ _ (held s) safe (is-there s 2 (m .match .keys2)) (may-come s 2 (m .match .keys2)))
+    (safe .bounds .few-vars, action-place _ _ _ _ (held s) (begun s) safe (is-there s 2 (m .match .keys2)) (may-come s 2 (m .match .keys2)))
 
 shared-slice-read-on-condition : tie.Need-shared-slice-read-on-condition
 shared-slice-read-on-condition c = omega (arith, inside-3 (c .before))
@@ -108,7 +112,7 @@ on-condition-requires c κs =
     let m = c .before .before .before .before in
     let s = m .before .before in
     let safe = s .pre .0 in
-    (safe .bounds .few-vars, omega (arith, safe .bounds .fewer, safe .bounds .low), condition-action _ _ (s .args .start) 0 (held s) safe (may-come s 3 (m .match .keys3)), safe .bounds .few-actions)
+    (safe .bounds .few-vars, omega (arith, safe .bounds .fewer, safe .bounds .low), condition-action _ _ (s .args .start) 0 (held s) (begun s) safe (may-come s 3 (m .match .keys3)), safe .bounds .few-actions)
 
 shared-slice-read-on-task : tie.Need-shared-slice-read-on-task
 shared-slice-read-on-task c = omega (arith, inside-4 (c .before))
@@ -159,7 +163,10 @@ add-on-seed : tie.Need-add-on-seed
 add-on-seed c = omega (arith, inside-5 (c .before .before .before .before .before))
 
 on-seed-requires : tie.Need-on-seed-requires
-on-seed-requires c κs = search needs
+on-seed-requires c κs =
+    let m = c .before .before .before .before .before .before in
+    let s = m .before .before in
+    seed-place _ _ (s .args .start) 0 (held s) (begun s) (s .pre .0) (may-come s 5 (m .match .keys5))
 
 shared-slice-read-on-times : tie.Need-shared-slice-read-on-times
 shared-slice-read-on-times c = omega (arith, inside-7 (c .before))
@@ -172,7 +179,7 @@ on-times-requires c κs =
     let m = c .before .before in
     let s = m .before .before in
     let safe = s .pre .0 in
-    (safe .bounds .known-situation, omega (arith, safe .bounds .fewer, safe .bounds .low), times-action _ _ (s .args .start) 0 (held s) safe (may-come s 7 (m .match .keys6)), safe .bounds .few-actions)
+    (safe .bounds .known-situation, omega (arith, safe .bounds .fewer, safe .bounds .low), times-action _ _ (s .args .start) 0 (held s) (begun s) safe (may-come s 7 (m .match .keys6)), safe .bounds .few-actions)
 
 shared-slice-read-on-present : tie.Need-shared-slice-read-on-present
 shared-slice-read-on-present c = omega (arith, inside-8 (c .before))
@@ -183,6 +190,9 @@ add-on-present c = omega (arith, inside-8 (c .before))
 on-present-requires : tie.Need-on-present-requires
 on-present-requires c κs = search needs
 
+on-crew-requires : tie.Need-on-crew-requires
+on-crew-requires c κs = search needs
+
 on-end-requires : tie.Need-on-end-requires
 on-end-requires c κs = search needs
 
@@ -192,7 +202,7 @@ returns c =
     let m = c .before .before .before in
     let s = m .before .before in
     rw (c .on-variable .ensures .0, c .on-variable .ensures .1 .0, c .on-variable .ensures .1 .1, c .on-variable .ensures .1 .2)
-    (variable-arm _ _ _ _ (held s) (s .pre .0) (is-there s 1 (m .match .keys1)) (may-come s 1 (m .match .keys1)) _ refl)
+    (variable-arm _ _ _ _ (held s) (begun s) (s .pre .0) (is-there s 1 (m .match .keys1)) (may-come s 1 (m .match .keys1)) _ refl)
 
 returns-2 : tie.Need-returns-2
 unfolding bodyLength bodyLengths
@@ -200,7 +210,7 @@ returns-2 c =
     let m = c .before .before .before .before .before .before in
     let s = m .before .before in
     rw (c .on-action .ensures .0, c .on-action .ensures .1 (now (s .args .setters)))
-    (action-arm _ _ _ _ (held s) (s .pre .0) (is-there s 2 (m .match .keys2)) (may-come s 2 (m .match .keys2)) _ _ _ refl refl refl _ refl)
+    (action-arm _ _ _ _ (held s) (begun s) (s .pre .0) (is-there s 2 (m .match .keys2)) (may-come s 2 (m .match .keys2)) _ _ _ refl refl refl _ refl)
 
 returns-3 : tie.Need-returns-3
 unfolding bodyLength bodyLengths
@@ -208,23 +218,23 @@ returns-3 c =
     let m = c .before .before .before .before .before in
     let s = m .before .before in
     rw (c .on-condition .ensures .0, c .on-condition .ensures .1 (now (s .args .setters)))
-    (condition-arm _ _ _ _ (held s) (s .pre .0) (is-there s 3 (m .match .keys3)) (may-come s 3 (m .match .keys3)) _ _ refl refl _ refl)
+    (condition-arm _ _ _ _ (held s) (begun s) (s .pre .0) (is-there s 3 (m .match .keys3)) (may-come s 3 (m .match .keys3)) _ _ refl refl _ refl)
 
 returns-4 : tie.Need-returns-4
 unfolding bodyLength bodyLengths
 returns-4 c =
     let m = c .before .before .before .before .before in
     let s = m .before .before in
-    rw (c .on-task .ensures .0, c .on-task .ensures .1 .0, c .on-task .ensures .1 .1, c .on-task .ensures .1 .2)
-    (task-arm _ _ _ _ (held s) (s .pre .0) (is-there s 4 (m .match .keys4)) (may-come s 4 (m .match .keys4)) _ _ _ refl refl refl _ refl)
+    rw (c .on-task .ensures)
+    (task-arm _ _ _ _ (held s) (begun s) (s .pre .0) (is-there s 4 (m .match .keys4)) (may-come s 4 (m .match .keys4)) _ _ _ refl refl refl _ refl)
 
 returns-5 : tie.Need-returns-5
 unfolding bodyLength bodyLengths
 returns-5 c =
-    let m = c .before .before .before .before .before .before in
+    let m = c .before .before .before .before .before .before .before in
     let s = m .before .before in
-    rw (c .on-seed .ensures)
-    (seed-arm _ _ _ _ (held s) (s .pre .0) (is-there s 5 (m .match .keys5)) (may-come s 5 (m .match .keys5)) _ (c .before .seed-of .ensures))
+    rw (c .on-seed .ensures .0, c .on-seed .ensures .1)
+    (seed-arm _ _ _ _ (held s) (begun s) (s .pre .0) (is-there s 5 (m .match .keys5)) (may-come s 5 (m .match .keys5)) _ (c .before .before .seed-of .ensures))
 
 returns-6 : tie.Need-returns-6
 unfolding bodyLength bodyLengths
@@ -232,7 +242,7 @@ returns-6 c =
     let m = c .before .before .before in
     let s = m .before .before in
     rw (c .on-times .ensures .0, c .on-times .ensures .1 (now (s .args .setters)))
-    (times-arm _ _ _ _ (held s) (s .pre .0) (is-there s 7 (m .match .keys6)) (may-come s 7 (m .match .keys6)) _ refl)
+    (times-arm _ _ _ _ (held s) (begun s) (s .pre .0) (is-there s 7 (m .match .keys6)) (may-come s 7 (m .match .keys6)) _ refl)
 
 returns-7 : tie.Need-returns-7
 unfolding bodyLength bodyLengths
@@ -240,9 +250,18 @@ returns-7 c =
     let m = c .before .before in
     let s = m .before .before in
     rw (c .on-present .ensures)
-    (present-arm _ _ _ _ (held s) (s .pre .0) (is-there s 8 (m .match .keys7)) (may-come s 8 (m .match .keys7)) _ refl)
+    (present-arm _ _ _ _ (held s) (begun s) (s .pre .0) (is-there s 8 (m .match .keys7)) (may-come s 8 (m .match .keys7)) _ refl)
 
--- the kind is one of eight, and none of the seven others
+returns-8 : tie.Need-returns-8
+unfolding bodyLength bodyLengths
+returns-8 c =
+    let m = c .before in
+    let s = m .before .before in
+    let n : s .args .start + 0 ≡ s .args .start = omega arith in
+    rw (c .on-crew .ensures)
+    (crew-arm _ _ _ _ (held s) (begun s) (s .pre .0) (rw n at (is-there s 9 (m .match .keys8))) (may-come s 9 (m .match .keys8)))
+
+-- the kind is one of nine, and none of the eight others
 is-end : (c : tie.At-match-rest) → c .before .before .args .kind ≡ 6
 is-end c = from (ℕ-discrete (c .before .before .args .kind) 6)
   where
@@ -251,11 +270,16 @@ is-end c = from (ℕ-discrete (c .before .before .args .kind) 6)
     from (no ne) =
         let l = there-lies _ _ (c .before .before .pre .1 .1) in
         let r = c .match .rest in
-        absurd (omega (arith, l .high, beyond-the-kinds (l .low) (r .0 .0 .0 .0 .0 .0 .1) (r .0 .0 .0 .0 .0 .1) (r .0 .0 .0 .0 .1) (r .0 .0 .0 .1) (r .0 .0 .1) ne (r .0 .1) (r .1)))
+        absurd
+        (omega (
+          arith,
+          l .high,
+          beyond-the-kinds (l .low) (r .0 .0 .0 .0 .0 .0 .0 .1) (r .0 .0 .0 .0 .0 .0 .1) (r .0 .0 .0 .0 .0 .1) (r .0 .0 .0 .0 .1) (r .0 .0 .0 .1) ne (r .0 .0 .1) (r .0 .1) (r .1),
+        ))
 
-returns-8 : tie.Need-returns-8
+returns-9 : tie.Need-returns-9
 unfolding bodyLength bodyLengths
-returns-8 c =
+returns-9 c =
     let m = c .before .before .before in
     let s = m .before .before in
     let n : s .args .start + 0 ≡ s .args .start = omega arith in
@@ -263,8 +287,8 @@ returns-8 c =
     let safe = s .pre .0 in (
       c .on-end .ensures .0 _ _ _,
       λ d stands.
-          rw (end-verdict _ _ _ _ (held s) safe (rw n at (is-there s 6 (is-end m))) may d stands)
-          (c .on-end .ensures .1 _ _ _ _ d refl (end-last _ _ may) (safe .bounds .few-tasks) stands),
+          rw (end-verdict _ _ _ _ (held s) (begun s) safe (rw n at (is-there s 6 (is-end m))) may d stands)
+          (c .on-end .ensures .1 _ _ _ _ _ d refl stands),
     )
 
 pub take-spec : {M : Type 1} → statement M
@@ -309,6 +333,7 @@ take-spec =
     shared-slice-read-on-present
     add-on-present
     on-present-requires
+    on-crew-requires
     on-end-requires
     returns
     returns-2
@@ -317,4 +342,5 @@ take-spec =
     returns-5
     returns-6
     returns-7
-    returns-8)
+    returns-8
+    returns-9)

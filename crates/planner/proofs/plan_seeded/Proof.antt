@@ -1,4 +1,4 @@
--- `planner::plan_seeded` meets its contract: what is loaded is what the file says, and its tables and seed are given to planning.
+-- `planner::plan_seeded` meets its contract: what is loaded is what the file says to the crew, and its tables and seed are given to planning.
 -- Assumes nothing.
 use mathlib.Core.Path.{refl, ap, _∙_}
 use Rattle.tables.proofs.Fresh.{fresh-sized}
@@ -8,8 +8,8 @@ use borrow.Author.Needs.{needs}
 use Rattle.planner.proofs.plan_seeded.Statement.{statement}
 use Rattle.planner.proofs.plan_seeded.Tie as tie
 
-load-requires : tie.Need-load-requires
-load-requires c κs = search needs
+load-for-requires : tie.Need-load-for-requires
+load-for-requires c κs = fresh-sized
 
 enum-known-found : tie.Need-enum-known-found
 enum-known-found c = search needs
@@ -23,14 +23,14 @@ refused-requires c κs = search needs
 returns : tie.Need-returns
 returns c =
     let e = c .before .enum-told .given .1 in
-    let said = rw e at (c .before .before .before .load .ensures fresh-sized) in
+    let said = rw e at (c .before .before .before .load-for .ensures) in
     rw said (c .refused .ensures ∙ ap notLoaded e, refl)
 
 plan-drawn-requires : tie.Need-plan-drawn-requires
 plan-drawn-requires c κs =
     let f = c .before .before .before .before .before in
-    let (t, said, holds) = rw (f .found .given .1) at (f .before .before .load .ensures fresh-sized) in
-    (holds .sized .setters, (t, loaded-known said holds))
+    let (t, said, holds) = rw (f .found .given .1) at (f .before .before .load-for .ensures) in
+    (holds .sized .setters, (t, loaded-known _ said holds))
 
 same-length : tie.Need-same-length
 same-length c = search needs
@@ -39,14 +39,14 @@ returns-2 : tie.Need-returns-2
 returns-2 c =
     let p = c .before .before in
     let f = p .before .before .before .before .before .before in
-    let (t, said, holds) = rw (f .found .given .1) at (f .before .before .load .ensures fresh-sized) in
-    seeded-plans _ said (holds .seed) (holds .actions .count) (p .plan-drawn .ensures t (loaded-known said holds))
+    let (t, said, holds) = rw (f .found .given .1) at (f .before .before .load-for .ensures) in
+    seeded-plans _ _ said (holds .seed) (holds .actions .count) (p .plan-drawn .ensures t (loaded-known _ said holds))
 
 pub plan-seeded-spec : {M : Type 1} → statement M
 plan-seeded-spec =
     tie.close
     (tie.spec
-    load-requires
+    load-for-requires
     enum-known-found
     enum-told
     refused-requires

@@ -9,7 +9,7 @@ use Rattle.records.proofs.Laws.{body-length-small}
 use Rattle.records.proofs.body_length.Statement.{statement}
 use Rattle.records.proofs.body_length.Tie as tie
 
-four-bits : (kind : ℕ) → kind ≤ 8 → 4567802640 / 2 ^ (4 * kind) % 16 ≡ bodyLength kind
+four-bits : (kind : ℕ) → kind ≤ 9 → 4567802640 / 2 ^ (4 * kind) % 16 ≡ bodyLength kind
 unfolding bodyLength bodyLengths
 four-bits zero h = refl
 four-bits (suc zero) h = refl
@@ -20,7 +20,8 @@ four-bits (suc (suc (suc (suc (suc zero))))) h = refl
 four-bits (suc (suc (suc (suc (suc (suc zero)))))) h = refl
 four-bits (suc (suc (suc (suc (suc (suc (suc zero))))))) h = refl
 four-bits (suc (suc (suc (suc (suc (suc (suc (suc zero)))))))) h = refl
-four-bits (suc (suc (suc (suc (suc (suc (suc (suc (suc kind))))))))) h = omega arith
+four-bits (suc (suc (suc (suc (suc (suc (suc (suc (suc zero))))))))) h = refl
+four-bits (suc (suc (suc (suc (suc (suc (suc (suc (suc (suc kind)))))))))) h = omega arith
 
 mul-result : tie.Need-mul-result
 mul-result c = search needs

@@ -1,11 +1,11 @@
--- `recounting::print_plan` keeps to what it calls: the tables hold the study that the file says, and the plan is straight.
+-- `recounting::print_plan` keeps to what it calls: the tables hold the study that the file says to the crew, and the plan is straight.
 -- Assumes nothing.
 use native.Mathlib.Omega.{arith}
 use mathlib.Core.Path.{refl, _∙_}
 use lib.ListN.{getD}
 use denote.Ref.{now}
 use borrow.Author.Needs.{needs}
-use Rattle.lawful.proofs.Loads.{loads-lawful}
+use Rattle.lawful.proofs.Loads.{heard-lawful}
 use Rattle.walks.proofs.Leads.{on-walk-usable}
 use Rattle.tables.proofs.Fresh.{fresh-sized}
 use Rattle.bits.proofs.Members.{fresh-empty}
@@ -15,8 +15,8 @@ use Rattle.recounting.proofs.Planned.{loads-holds, steps-differ, step-o
 use Rattle.recounting.proofs.print_plan.Statement.{statement}
 use Rattle.recounting.proofs.print_plan.Tie as tie
 
-load-requires : tie.Need-load-requires
-load-requires c κs = search needs
+load-for-requires : tie.Need-load-for-requires
+load-for-requires c κs = fresh-sized
 
 enum-known-loaded : tie.Need-enum-known-loaded
 enum-known-loaded c = search needs
@@ -36,7 +36,7 @@ place-all-requires c κs =
     let l = m .before .before in
     let s = l .before .before .before .before .before .before in
     let (t, said, straight) = s .pre .1 in
-    (refl, s .pre .0, steps-differ (loads-lawful (now (s .args .file)) t said) (loads-holds (now (s .args .file)) t said (rw (m .loaded .given .1) at (l .load .ensures fresh-sized))) straight)
+    (refl, s .pre .0, steps-differ (heard-lawful (now (s .args .file)) (s .args .crew) t said) (loads-holds (now (s .args .file)) (s .args .crew) t said (rw (m .loaded .given .1) at (l .load-for .ensures))) straight)
 
 note-all-requires : tie.Need-note-all-requires
 note-all-requires c κs =
@@ -44,7 +44,7 @@ note-all-requires c κs =
     let l = m .before .before in
     let s = l .before .before .before .before .before .before in
     let (t, said, straight) = s .pre .1 in
-    (refl, fresh-in-fours, (t, held-wishes (loads-lawful (now (s .args .file)) t said) (loads-holds (now (s .args .file)) t said (rw (m .loaded .given .1) at (l .load .ensures fresh-sized)) .actions)))
+    (refl, fresh-in-fours, (t, held-wishes (heard-lawful (now (s .args .file)) (s .args .crew) t said) (loads-holds (now (s .args .file)) (s .args .crew) t said (rw (m .loaded .given .1) at (l .load-for .ensures)) .actions)))
 
 print-steps-requires : tie.Need-print-steps-requires
 print-steps-requires c κs =
@@ -55,8 +55,8 @@ print-steps-requires c κs =
     let l = m .before .before in
     let s = l .before .before .before .before .before .before in
     let (t, said, straight) = s .pre .1 in
-    let lawful = loads-lawful (now (s .args .file)) t said in
-    let holds = loads-holds (now (s .args .file)) t said (rw (m .loaded .given .1) at (l .load .ensures fresh-sized)) in (
+    let lawful = heard-lawful (now (s .args .file)) (s .args .crew) t said in
+    let holds = loads-holds (now (s .args .file)) (s .args .crew) t said (rw (m .loaded .given .1) at (l .load-for .ensures)) in (
       t,
       record {
         few = s .pre .0;
@@ -89,7 +89,7 @@ pub print-plan-spec : {M : Type 1} → statement M
 print-plan-spec =
     tie.close
     (tie.spec
-    load-requires
+    load-for-requires
     enum-known-loaded
     enum-told
     returns

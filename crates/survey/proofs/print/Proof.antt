@@ -39,14 +39,14 @@ array-share-prefix-report : tie.Need-array-share-prefix-report
 array-share-prefix-report c =
     let e = c .before .before .before .before .before in
     let made = e .before .before .before in
-    omega (arith, report-fits _ _ _ _ _ _ (e .if1 .left) (made .survey .ensures), made .survey .kept .1 .1 .0)
+    omega (arith, report-fits _ _ _ _ _ _ _ (e .if1 .left) (made .survey .ensures), made .survey .kept .1 .1 .0)
 
 slice-aggregate-write-all-3 : tie.Need-slice-aggregate-write-all-3
 slice-aggregate-write-all-3 c =
     let e = c .before .before .before .before .before .before in
     let made = e .before .before .before in
     sym (length-take-le (made .survey .result .first) (made .survey .last .1 .1 .0)
-    (omega (arith, report-fits _ _ _ _ _ _ (e .if1 .left) (made .survey .ensures), made .survey .kept .1 .1 .0)))
+    (omega (arith, report-fits _ _ _ _ _ _ _ (e .if1 .left) (made .survey .ensures), made .survey .kept .1 .1 .0)))
 
 write-all-requires-3 : tie.Need-write-all-requires-3
 write-all-requires-3 c κs = search needs

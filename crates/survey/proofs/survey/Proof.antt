@@ -23,6 +23,9 @@ number-at-requires c κs = search needs
 number-at-requires-2 : tie.Need-number-at-requires-2
 number-at-requires-2 c κs = search needs
 
+number-at-requires-3 : tie.Need-number-at-requires-3
+number-at-requires-3 c κs = search needs
+
 report-requires : tie.Need-report-requires
 report-requires c κs = search needs
 
@@ -32,14 +35,19 @@ same-length c = search needs
 returns : tie.Need-returns
 returns c =
     let w = c .before .before in
-    let second = w .before .before in
-    let first = second .before in
-    let end = first .before .before in
+    let count = w .before .before in
+    let first = count .before in
+    let crew = first .before in
+    let end = crew .before .before in
     let start = end .before .before .before in
-    handed (start .args .input .now) _ _ (w .report .result) _ (end .file-end .result) (first .number-at .result) (second .number-at2 .result)
+    handed (start .args .input .now) _ _ (w .report .result) _ (end .file-end .result)
+    (crew .number-at .result)
+    (first .number-at2 .result)
+    (count .number-at3 .result)
     (end .file-end .ensures .2)
-    (first .number-at .ensures)
-    (second .number-at2 .ensures)
+    (crew .number-at .ensures)
+    (first .number-at2 .ensures)
+    (count .number-at3 .ensures)
     (w .report .ensures)
 
 pub survey-spec : {M : Type 1} → statement M
@@ -52,6 +60,7 @@ survey-spec =
     part-report-end
     number-at-requires
     number-at-requires-2
+    number-at-requires-3
     report-requires
     same-length
     returns)

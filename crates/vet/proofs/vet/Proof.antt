@@ -29,6 +29,9 @@ part-chart-start c = search needs
 part-chart-end : tie.Need-part-chart-end
 part-chart-end c = search needs
 
+number-at-requires-3 : tie.Need-number-at-requires-3
+number-at-requires-3 c κs = search needs
+
 sub-chart-2 : tie.Need-sub-chart-2
 sub-chart-2 c = search needs
 
@@ -52,7 +55,8 @@ chart-requires c κs = search needs
 
 returns : tie.Need-returns
 returns c =
-    let file = c .before .before .before .before in
+    let crew = c .before .before .before in
+    let file = crew .before .before in
     let more = file .before in
     let pairs = more .before in
     let many = pairs .before in
@@ -66,9 +70,11 @@ returns c =
     (file .part-end2 .ensures .0)
     (pairs .part-end .ensures .2)
     (file .part-end2 .ensures .2)
+    (crew .number-at3 .result)
     (c .chart .result)
     (many .number-at .ensures .1)
     (more .number-at2 .ensures .1)
+    (crew .number-at3 .ensures .1)
     (c .chart .ensures)
 
 pub vet-spec : {M : Type 1} → statement M
@@ -83,6 +89,7 @@ vet-spec =
     sub-chart
     part-chart-start
     part-chart-end
+    number-at-requires-3
     sub-chart-2
     part-chart-start-2
     part-chart-end-2

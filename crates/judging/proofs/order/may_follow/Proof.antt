@@ -44,42 +44,56 @@ returns-8 c =
 returns-9 : tie.Need-returns-9
 unfolding mayFollow
 returns-9 c =
-    let d = c .before .before in
-    simp (d .before .match .keys4, d .if5 .taken, le-leb _ _ (c .before .if6 .taken), lt-leb _ _ (c .if7 .left), and-true)
+    let e = c .before in
+    let d = e .before .before in
+    simp (d .before .match .keys4, d .if5 .taken, le-leb _ _ (e .before .if6 .taken), lt-leb _ _ (e .if7 .left), eq-eqb _ _ (c .if8 .taken))
 
 returns-10 : tie.Need-returns-10
 unfolding mayFollow
 returns-10 c =
-    let d = c .before in
-    simp (d .before .match .keys4, d .if5 .taken, lt-leb _ _ (c .if6 .left), ne-eqb (d .before .before .args .last) 7 (λ e. omega (arith, e, c .if6 .left)))
+    let e = c .before in
+    let d = e .before .before in
+    simp (d .before .match .keys4, d .if5 .taken, le-leb _ _ (e .before .if6 .taken), lt-leb _ _ (e .if7 .left), ne-eqb _ _ (c .if8 .left), and-true)
 
 returns-11 : tie.Need-returns-11
 unfolding mayFollow
-returns-11 c = simp (c .before .match .keys4, c .if5 .left, and-false)
+returns-11 c =
+    let d = c .before in
+    simp (
+      d .before .match .keys4,
+      d .if5 .taken,
+      lt-leb _ _ (c .if6 .left),
+      ne-eqb (d .before .before .args .last) 7 (λ e. omega (arith, e, c .if6 .left)),
+      ne-eqb (d .before .before .args .last) 9 (λ e. omega (arith, e, c .if6 .left)),
+    )
 
 returns-12 : tie.Need-returns-12
 unfolding mayFollow
-returns-12 c = simp (c .before .match .keys5, eq-eqb _ _ (c .if8 .taken))
+returns-12 c = simp (c .before .match .keys4, c .if5 .left, and-false)
 
 returns-13 : tie.Need-returns-13
 unfolding mayFollow
-returns-13 c = simp (c .before .match .keys5, ne-eqb _ _ (c .if8 .left))
+returns-13 c = simp (c .before .match .keys5, eq-eqb _ _ (c .if9 .taken))
 
 returns-14 : tie.Need-returns-14
 unfolding mayFollow
-returns-14 c = simp (c .before .match .keys6, le-leb _ _ (c .if9 .taken))
+returns-14 c = simp (c .before .match .keys5, ne-eqb _ _ (c .if9 .left))
 
 returns-15 : tie.Need-returns-15
 unfolding mayFollow
-returns-15 c = simp (c .before .match .keys6, lt-leb _ _ (c .if9 .left))
+returns-15 c = simp (c .before .match .keys6, le-leb _ _ (c .if10 .taken))
 
 returns-16 : tie.Need-returns-16
 unfolding mayFollow
-returns-16 c = simp (c .match .keys7)
+returns-16 c = simp (c .before .match .keys6, lt-leb _ _ (c .if10 .left))
 
 returns-17 : tie.Need-returns-17
 unfolding mayFollow
-returns-17 c =
+returns-17 c = simp (c .match .keys7)
+
+returns-18 : tie.Need-returns-18
+unfolding mayFollow
+returns-18 c =
     let r = c .match .rest in
     simp (
       ne-eqb _ _ (r .0 .0 .0 .0 .0 .0 .1),
@@ -111,4 +125,5 @@ may-follow-spec =
     returns-14
     returns-15
     returns-16
-    returns-17)
+    returns-17
+    returns-18)
