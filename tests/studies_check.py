@@ -1,8 +1,9 @@
 """Checks studies/: each NAME.bin is what bin/make-study makes of NAME.study, and each NAME.out what the oracle says that the
 program prints for NAME.bin, each NAME.explained what the explainer of tests/explain says; each NAME.names and NAME.why has these
-lines with the table's words; each NAME.charted is what the oracle says of NAME.chart, in words; and bin/make-study itself: its
-mistakes, the refusals that it shows, --names and --show. It proves and builds the writer where that is still to be done. The
-last line is 'N passed, M failed'.
+lines with the table's words; each NAME.charted is what the oracle says of NAME.chart, in words; each NAME.compared leads from one
+plan to another by straight plans, in as few exchanges as there are pairs that differ; and bin/make-study itself: its mistakes, the
+refusals that it shows, --names and --show. It proves and builds the writer where that is still to be done. The last line is
+'N passed, M failed'.
 
     python3 tests/studies_check.py             checks
     python3 tests/studies_check.py --write     writes every file but tables and charts anew, then checks
@@ -64,6 +65,9 @@ VARIED = ["porter", "hotel"]
 
 # The charts, and the studies and crews that they are of: what bin/chart prints of each is stored.
 CHARTED = {"porter": ("porter", 0), "hotel": ("hotel", 0), "hotel-short": ("hotel", 0), "hotel-crews": ("hotel-crews", 1)}
+
+# The studies of which what bin/compare prints is stored: the crew, and the two seeds.
+COMPARED = {"porter": (0, 1, 3), "hotel": (0, 1, 2), "hotel-crews": (1, 1, 2)}
 
 # The studies whose explanations are stored in words too: each kind of line is among them.
 WHY = ["porter", "night-porter", "no-walk", "cart-back", "wrong-badge", "doorman", "hotel-crews"]
@@ -341,6 +345,46 @@ def charted(name):
     return "".join(f"{line}\n" for line in lines)
 
 
+def bringing(action, steps):
+    """The lists on the way while an action is brought to the front, as crates/swaps/specs/Swaps.antt has it."""
+    if steps[0] == action:
+        return []
+    return [[steps[0], *rest] for rest in bringing(action, steps[1:])] + [[action, *(step for step in steps if step != action)]]
+
+
+def chain(first, second):
+    """The lists on the way from one plan to another, by the same page."""
+    if not second:
+        return []
+    action, *rest = second
+    return bringing(action, first) + [[action, *steps] for steps in chain([step for step in first if step != action], rest)]
+
+
+def compared_plans(name):
+    """The two plans, by the oracle."""
+    crew, *seeds = COMPARED[name]
+    data = stored(name, ".bin")
+    count = len(oracle.heard(data, crew).actions)
+    plans = [oracle.plan(data, crew, bytes(oracle.drawn(seed, count)[0]), bytes(256)) for seed in seeds]
+    return [list(plan[: numbers[1]]) for numbers, plan in plans]
+
+
+def compared(name):
+    """What bin/compare prints of two plans that differ; nothing is shared with it."""
+    crew, *seeds = COMPARED[name]
+    first, second = compared_plans(name)
+    lists = [first, *chain(first, second)]
+    title = ", ".join([f"{name}.study", *CREWS.get(name, [])[crew : crew + 1], "seeds {} and {}".format(*seeds)])
+    text = f"{title}: plans of {len(first)} steps, {len(lists) - 1} exchange{'s' * (len(lists) > 2)} apart\n"
+    actions = [action.split(":")[0] for action in actions_in_words(name)]
+    for before, after in zip(lists, lists[1:]):
+        at = next(place for place in range(len(before)) if before[place] != after[place])
+        one, other = before[at : at + 2]
+        words = [actions[number] for number in (one, other, other, one)]
+        text += "{} {} {}  {} before {}: now {} before {}\n".format(at, one, other, *words)
+    return text
+
+
 def refusal_of(name):
     """What bin/make-study says of a table that it makes no study of."""
     said = command(STUDIES / f"{name}.study", "-o", "-")
@@ -378,6 +422,8 @@ def write_all():
         (STUDIES / f"{name}.variety").write_text(variety(name))
     for name in CHARTED:
         (STUDIES / f"{name}.charted").write_text(charted(name))
+    for name in COMPARED:
+        (STUDIES / f"{name}.compared").write_text(compared(name))
 
 
 def check_study(name, first_line):
@@ -403,6 +449,22 @@ def check_variety(name):
 
 def check_charted(name):
     expect(stored(name, ".charted").decode() == charted(name), f"{name}.charted is not what the oracle says of the chart")
+
+
+def check_compared(name):
+    """The lines, followed one by one, lead by straight plans from the first plan to the second, and fewer cannot."""
+    text = stored(name, ".compared").decode()
+    expect(text == compared(name), f"{name}.compared is not what the plans of the oracle give")
+    crew, data, (steps, second) = COMPARED[name][0], stored(name, ".bin"), compared_plans(name)
+    differing = sum(second.index(one) > second.index(other) for at, one in enumerate(steps) for other in steps[at + 1 :])
+    lines = text.splitlines()[1:]
+    expect(len(lines) == differing > 0, f"{name}.compared has {len(lines)} exchanges, and {differing} pairs differ")
+    for line in lines:
+        at, one, other = map(int, line.split()[:3])
+        expect(steps[at : at + 2] == [one, other], f"{name}.compared: '{line}' exchanges what does not stand there")
+        steps = [*steps[:at], other, one, *steps[at + 2 :]]
+        expect(oracle.run(data, crew, bytes(steps), bytes(32))[0][0] == 0, f"{name}.compared: no straight plan after '{line}'")
+    expect(steps == second, f"{name}.compared does not lead to the second plan")
 
 
 def check_charts():
@@ -431,6 +493,7 @@ def check_folder():
     named |= {name + suffix for name in REFUSED for suffix in (".study", ".refused")}
     named |= {f"{name}.names" for name in IN_WORDS} | {f"{name}.variety" for name in VARIED} | {f"{name}.why" for name in WHY}
     named |= {name + suffix for name in CHARTED for suffix in (".chart", ".charted")}
+    named |= {f"{name}.compared" for name in COMPARED}
     there = {path.name for path in STUDIES.iterdir()} - {"README.md"}
     expect(named == there, f"studies/ lacks {sorted(named - there)} or has {sorted(there - named)} too many")
 
@@ -497,7 +560,7 @@ def check_explanations():
 
 
 def check_pages():
-    """The explanations and the charts that the pages show are those of the studies."""
+    """The explanations, the charts and the comparisons that the pages show are those of the studies."""
     for page, names in {"README.md": ["ring"], "docs/EXPLAIN.md": ["porter", "doorman"]}.items():
         shown = re.findall(r"```\n\$ bin/explain studies/(\S+)\.study\n(.*?)```", (ROOT / page).read_text(), re.DOTALL)
         expect(shown == [(name, why(name)) for name in names], f"{page} does not show what bin/explain prints of {names}")
@@ -505,6 +568,10 @@ def check_pages():
         shown = re.findall(r"```\n\$ bin/chart studies/(\S+)\.study studies/(\S+)\.chart\n(.*?)```", (ROOT / page).read_text(), re.DOTALL)
         wanted = [(CHARTED[name][0], name, charted(name)) for name in names]
         expect(shown == wanted, f"{page} does not show what bin/chart prints of {names}")
+    for page, names in {"README.md": ["porter"], "docs/COMPARE.md": ["porter", "hotel"]}.items():
+        shown = re.findall(r"```\n\$ bin/compare studies/(\S+)\.study (\d+) (\d+)\n(.*?)```", (ROOT / page).read_text(), re.DOTALL)
+        wanted = [(name, *map(str, COMPARED[name][1:]), compared(name)) for name in names]
+        expect(shown == wanted, f"{page} does not show what bin/compare prints of {names}")
 
 
 def check_night_porter():
@@ -663,6 +730,8 @@ def main():
         attempt(check_why, name)
     for name in CHARTED:
         attempt(check_charted, name)
+    for name in COMPARED:
+        attempt(check_compared, name)
     attempt(check_charts)
     attempt(check_folder)
     attempt(check_particulars)

@@ -5,3 +5,4 @@ pub mod Room
 pub mod RefusedAlike
 pub mod Crews
 pub mod Charts
+pub mod Swaps
