@@ -1,0 +1,11 @@
+pub mod Events
+pub mod Waits
+pub mod Replays
+pub mod Counts
+pub mod Idle
+pub mod AllDone
+pub mod Settled
+pub mod Refusals
+pub mod Places
+pub mod Record
+pub mod Steps
