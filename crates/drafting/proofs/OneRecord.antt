@@ -12,9 +12,9 @@ use Rattle.plain.specs.Choose.{pick}
 use Rattle.study.specs.Reading.{Record, variable, action, condition, task, seed, times, present, crew, refused, reading, Draft, settled, onward, faultIn, drafted, taken, unless, mayFollow, verdictAt}
 use Rattle.lawful.specs.Lengths.{bytesOf}
 use Rattle.judging.specs.Faults.{variableFault, actionFault, conditionFault, taskFault, seedFault, timesFault, presentFault, crewFault}
-use Rattle.entering.specs.declared.Progress.{Progress}
-use Rattle.entering.specs.declared.Step.the-variants.{Refused}
-use Rattle.entering.specs.Steps.{unlessFault, stored, afterVariable, afterAction, afterCondition, afterTask, afterSeed, afterTimes, afterPresent, afterCrew}
+use Rattle.advancing.specs.declared.Progress.{Progress}
+use Rattle.advancing.specs.declared.Step.the-variants.{Refused}
+use Rattle.advancing.specs.Steps.{afterVariable, afterAction, afterCondition, afterTask, afterSeed, afterTimes, afterPresent, afterCrew, unlessFault, stored}
 use Rattle.pacing.specs.Reads.{Bounds, Knows}
 use Rattle.pacing.proofs.Arms.{allowed-is, may-condition}
 use Rattle.pacing.proofs.Reached.{settles, goes-further}

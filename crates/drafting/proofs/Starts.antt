@@ -11,7 +11,7 @@ use Rattle.plain.specs.Choose.{pick}
 use Rattle.study.specs.Reading.{Record, variable, present, blank}
 use Rattle.tables.specs.Rows.{countColumn, column}
 use Rattle.lawful.specs.Lengths.{bytesOfPresent}
-use Rattle.entering.specs.declared.Progress.{Progress}
+use Rattle.advancing.specs.declared.Progress.{Progress}
 use Rattle.pacing.specs.Reads.{Bounds, origin}
 use Rattle.pacing.proofs.Reached.{begun}
 use Rattle.pacing.proofs.Start.{nothing-known}

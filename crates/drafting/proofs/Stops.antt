@@ -8,11 +8,11 @@ use types.Run.{OneOf}
 use denote.Enum.Declared.{tagOf}
 use Rattle.study.specs.Study.{Roster}
 use Rattle.study.specs.Reading.{Said, Record, reading, refused}
-use Rattle.entering.specs.declared.Progress.{Progress}
-use Rattle.entering.specs.declared.Step.{Step}
-use Rattle.entering.specs.declared.Step.the-variants.{On, Refused, Done}
-use Rattle.entering.proofs.Step.{the-type}
-use Rattle.entering.proofs.Judged.{same, not-on}
+use Rattle.advancing.specs.declared.Progress.{Progress}
+use Rattle.advancing.specs.declared.Step.{Step}
+use Rattle.advancing.specs.declared.Step.the-variants.{On, Refused, Done}
+use Rattle.advancing.proofs.Step.{the-type}
+use Rattle.advancing.proofs.Judged.{same, not-on}
 use Rattle.pacing.specs.Reads.{Bounds}
 use Rattle.drafting.specs.Judges.{JudgedAs}
 use Rattle.drafting.specs.Drafts.{Drafted, Leads, Keeps, refusalOf}

@@ -12,7 +12,7 @@ use borrow.Author.Tests.{leb-true, le-leb, le-ltb, lt-ltb}
 use Rattle.plain.proofs.Tests.{either}
 use Rattle.study.specs.Study.{Action}
 use Rattle.study.specs.Reading.{Record, variable, action, condition, task, seed, end, times, present, crew, mayFollow}
-use Rattle.entering.specs.declared.Progress.{Progress}
+use Rattle.advancing.specs.declared.Progress.{Progress}
 use Rattle.pacing.specs.Reads.{Bounds}
 use Rattle.spelling.specs.Spelling.{kindOf}
 use Rattle.spelling.specs.Lists.{Errand, Team, taskRecord, actionRecords, behind, crewRecords}

@@ -10,9 +10,9 @@ use lib.ListN.{length, drop}
 use Rattle.plain.specs.Choose.{pick}
 use Rattle.study.specs.Reading.{Record, crew, Draft, mayFollow, reading, refused}
 use Rattle.lawful.specs.Lengths.{bytesOfPresent}
-use Rattle.entering.specs.declared.Progress.{Progress}
-use Rattle.entering.specs.declared.Step.{Step}
-use Rattle.entering.specs.declared.Step.the-variants.{On, Refused, Done}
+use Rattle.advancing.specs.declared.Progress.{Progress}
+use Rattle.advancing.specs.declared.Step.{Step}
+use Rattle.advancing.specs.declared.Step.the-variants.{On, Refused, Done}
 use Rattle.pacing.specs.Reads.{Bounds, Knows, Reached}
 use Rattle.spelling.specs.Spelling.{kindOf, spelled}
 use Rattle.spelling.specs.Lists.{Team, Lists, behind, crewRecords}

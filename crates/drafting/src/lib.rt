@@ -11,8 +11,8 @@ ghost use Rattle.spelling.specs.Lists.{Lists, conditionRecord, timesRecord, pre
 ghost use Rattle.spelling.specs.Lent.{number, unlentCondition, unlentErrand, conditionsIn, firstOf, actionsIn, errandsIn, crewsIn, lent};
 ghost use Rattle.drafting.specs.Judges.{JudgedAs};
 ghost use Rattle.drafting.specs.Drafts.{NoVariableYet, VariablesGoOn, ActionsGoOn, TasksGoOn, BehindVariables, Drafted, Leads, Keeps, RepeatedIn, CrewGoesOn, openingRecord, firstOr, refusalOf};
-use entering::Progress;
-use entering::Step;
+use advancing::Progress;
+use advancing::Step;
 use judging::order;
 
 // What stands for a number that is not lent.
@@ -47,7 +47,7 @@ fn judge_present(n: u8) -> Step
     if n == 0 {
         return Step::On(p);
     }
-    entering::on_present(p, n, 2)
+    advancing::on_present(p, n, 2)
 }
 
 fn judge_variable(p: Progress, n: u8, rows: &mut [[u8; 3]; 32]) -> Step
@@ -96,7 +96,7 @@ fn judge_action(p: Progress, v: u8, pre: u8, post: u8, rows: &[[u8; 3]; 32]) -> 
         → Drafted file (countColumn (now (rows .entry))) p (action v pre post ∷ rest)
         → Leads file (countColumn (now (rows .entry))) rest r) ⌝ }
 {
-    entering::judge_action(p, v, pre, post, p.at + 4, rows)
+    advancing::judge_action(p, v, pre, post, p.at + 4, rows)
 }
 
 // The condition at a place of the lent bytes.
@@ -109,9 +109,9 @@ fn judge_condition(p: Progress, conditions: &[u8], i: usize, rows: &[[u8; 3]; 32
 {
     let next = p.at + 3;
     if conditions.len() - i < 2 {
-        return entering::judge_condition(p, UNLENT, UNLENT, next, rows);
+        return advancing::judge_condition(p, UNLENT, UNLENT, next, rows);
     }
-    entering::judge_condition(p, conditions[i], conditions[i + 1], next, rows)
+    advancing::judge_condition(p, conditions[i], conditions[i + 1], next, rows)
 }
 
 // The conditions of one action, so many of them, from a place of the lent bytes on.
@@ -155,7 +155,7 @@ fn judge_times(p: Progress, n: u8) -> Step
     if n == 255 {
         return Step::On(p);
     }
-    entering::judge_times(p, n, p.at + 2)
+    advancing::judge_times(p, n, p.at + 2)
 }
 
 // The action at a place of the lent bytes, with its conditions and its situations.
@@ -227,7 +227,7 @@ fn judge_task(p: Progress, v: u8, start: u8, goal: u8, rows: &[[u8; 3]; 32]) -> 
             place: p.at,
         };
     }
-    entering::on_task(p, v, start, goal, p.at + 4, rows)
+    advancing::on_task(p, v, start, goal, p.at + 4, rows)
 }
 
 // The task at a place of the lent bytes: one that is not lent never goes on.
@@ -284,7 +284,7 @@ fn judge_opening(p: Progress, first: bool) -> Step
     if first {
         return Step::On(p);
     }
-    entering::on_crew(p, p.at + 1)
+    advancing::on_crew(p, p.at + 1)
 }
 
 fn judge_seed(p: Progress, n: u64) -> Step
@@ -300,7 +300,7 @@ fn judge_seed(p: Progress, n: u64) -> Step
             place: p.at,
         };
     }
-    entering::judge_seed(p, n, p.at + 5)
+    advancing::judge_seed(p, n, p.at + 5)
 }
 
 // One crew: its opening, so many tasks from a place of the lent bytes on, and its seed.

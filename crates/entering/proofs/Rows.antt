@@ -8,7 +8,7 @@ use lib.ListN.{getD, set}
 use Rattle.tables.specs.Tables.{actionTables}
 use Rattle.tables.specs.Rows.{Row, field, placeIn, manyIn, outIn, countColumn, startColumn, goalColumn, seen}
 use Rattle.tables.proofs.Columns.{column-set, column-kept}
-use Rattle.entering.specs.Steps.{withMany}
+use Rattle.advancing.specs.Steps.{withMany}
 
 -- a place in two bytes
 two-bytes : (n : ℕ) → n < 65536 → n % 256 + 256 * (n / 256 % 256) ≡ n

@@ -6,8 +6,8 @@ use Prim.Native.Nat.{ℕ}
 use native.Mathlib.Omega.{arith}
 use lib.ListN.{length}
 use Rattle.study.specs.Reading.{refused, blank, reading}
-use Rattle.entering.specs.declared.Progress.{Progress}
-use Rattle.entering.specs.declared.Step.the-variants.{On, Refused, Done}
+use Rattle.advancing.specs.declared.Progress.{Progress}
+use Rattle.advancing.specs.declared.Step.the-variants.{On, Refused, Done}
 use Rattle.tables.specs.declared.Read.the-variants as Read-of
 use Rattle.tables.specs.Tables.{Tables, Sized, Reads}
 use Rattle.pacing.specs.Reads.{Safe, origin}

@@ -14,9 +14,9 @@ use Rattle.records.specs.declared.Found.the-variants.{There}
 use Rattle.study.specs.Reading.{mayFollow}
 use Rattle.tables.specs.Tables.{ActionTables, Tables, tables}
 use Rattle.judging.specs.Faults.{variableFault, actionFault, conditionFault, taskFault, timesFault}
-use Rattle.entering.specs.declared.Progress.{Progress}
-use Rattle.entering.specs.declared.Step.the-variants.{On}
-use Rattle.entering.specs.Steps.{withMany, stored, storedMany, storedAction, outBy, afterVariable, afterAction, afterCondition, afterTask, afterTimes}
+use Rattle.advancing.specs.declared.Progress.{Progress}
+use Rattle.advancing.specs.declared.Step.the-variants.{On}
+use Rattle.advancing.specs.Steps.{afterVariable, afterAction, afterCondition, afterTask, afterTimes, stored, storedAction, withMany, storedMany, outBy}
 use Rattle.pacing.specs.Reads.{Safe}
 use Rattle.loader.specs.Halfway.{Halfway}
 use Rattle.pacing.proofs.Arms.{Answers, may-condition, may-times, variable-arm, action-arm, condition-arm, task-arm, times-arm}

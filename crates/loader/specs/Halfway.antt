@@ -5,7 +5,7 @@ use mathlib.Core.List.{List}
 use Rattle.study.specs.Reading.{Draft}
 use Rattle.tables.specs.Tables.{ActionTables, Tables, tables}
 use Rattle.tables.specs.Rows.{Row, countColumn, startColumn, goalColumn}
-use Rattle.entering.specs.declared.Progress.{Progress}
+use Rattle.advancing.specs.declared.Progress.{Progress}
 use Rattle.pacing.specs.Reads.{Stands, Reached}
 
 -- the draft that the tables, with where each crew begins, hold at a place

@@ -7,12 +7,12 @@ ghost use lib.Dec.{ltb};
 ghost use Rattle.study.specs.Reading.{mayFollow};
 ghost use lib.ListN.{length};
 ghost use Rattle.tables.specs.Tables.{ActionTables, tables, Sized, Reads};
-ghost use Rattle.entering.specs.Steps.{withMany};
+ghost use Rattle.advancing.specs.Steps.{withMany};
 ghost use Rattle.tables.specs.Rows.{countColumn, seenAll};
 ghost use Rattle.pacing.specs.Reads.{Safe};
 ghost use Rattle.loader.specs.Halfway.{Halfway, beside};
-use entering::Progress;
-use entering::Step;
+use advancing::Progress;
+use advancing::Step;
 use tables::Read;
 
 const VARIABLE: u8 = 1;
@@ -175,7 +175,7 @@ fn tasks(file: &[u8], begin: Progress, rows: &[[u8; 3]; 32]) -> Progress
         if !records::is_at(file, at, TASK, 3) {
             return p;
         }
-        let step = entering::on_task(p, file[at + 1], file[at + 2], file[at + 3], at + 4, rows);
+        let step = advancing::on_task(p, file[at + 1], file[at + 2], file[at + 3], at + 4, rows);
         let Step::On(next) = step else {
             return p;
         };

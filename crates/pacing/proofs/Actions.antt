@@ -14,7 +14,7 @@ use Rattle.plain.proofs.Lists.{length-more}
 use Rattle.bits.specs.Bits.{bit}
 use Rattle.study.specs.Study.{Action, always, inForce, actionAt, noAction}
 use Rattle.tables.specs.Tables.{ActionTables, Tables, actionTables, Sized, HoldsConditions, HoldsAction, HoldsActions}
-use Rattle.entering.specs.Steps.{withMany}
+use Rattle.advancing.specs.Steps.{withMany}
 use Rattle.pacing.proofs.Grows.{each-next, set-below}
 
 abbrev pub oneAction : ActionTables → (i v x y next : ℕ) → ActionTables

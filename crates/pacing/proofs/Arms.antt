@@ -20,11 +20,11 @@ use Rattle.records.proofs.Laws.{Lies, there-lies}
 use Rattle.study.specs.Reading.{Draft, Verdict, settled, onward, allowed, mayFollow, unless, fault, faultIn, drafted, decoded, taken, ended, firstRepeat, judged, verdictAt, variable, action, condition, task, seed, times, present, crew}
 use Rattle.study.proofs.Verdicts.{verdict-by, verdict-allowed}
 use Rattle.lawful.proofs.Order.{stage, may-follow}
-use Rattle.entering.specs.declared.Progress.{Progress}
-use Rattle.entering.specs.declared.Step.{Step}
+use Rattle.advancing.specs.declared.Progress.{Progress}
+use Rattle.advancing.specs.declared.Step.{Step}
 use Rattle.tables.specs.Tables.{Tables, tables, actionTables, seedOf, seedAt}
 use Rattle.judging.specs.Faults.{variableFault, actionFault, conditionFault, taskFault, seedFault, timesFault, presentFault, crewFault}
-use Rattle.entering.specs.Steps.{unlessFault, stored, storedAction, storedMany, outBy, afterVariable, afterAction, afterCondition, afterTask, afterSeed, afterTimes, afterPresent, afterCrew}
+use Rattle.advancing.specs.Steps.{afterVariable, afterAction, afterCondition, afterTask, afterSeed, afterTimes, afterPresent, afterCrew, unlessFault, stored, storedAction, storedMany, outBy}
 use Rattle.pacing.specs.Reads.{Safe, Knows, Stands, Further, Meets, notThere}
 use Rattle.pacing.proofs.Told.{variable-fault-is, action-fault-is, condition-fault-is, task-fault-is, seed-fault-is, times-fault-is, present-fault-is, crew-fault-is}
 use Rattle.pacing.proofs.Entered.{variable-entered, action-entered, condition-entered, times-entered, task-entered, seed-entered, present-entered, crew-entered}

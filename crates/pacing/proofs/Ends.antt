@@ -10,8 +10,8 @@ use borrow.Author.Tests.{lt-ltb, le-ltb}
 use Rattle.study.specs.Uses.{firstUnused}
 use Rattle.study.specs.Reading.{refused, Draft, Verdict, settled, ended, rosterOf, firstRepeat}
 use Rattle.tables.specs.Tables.{Tables, tables, actionTables}
-use Rattle.entering.specs.declared.Progress.{Progress}
-use Rattle.entering.specs.declared.Step.the-variants.{Done}
+use Rattle.advancing.specs.declared.Progress.{Progress}
+use Rattle.advancing.specs.declared.Step.the-variants.{Done}
 use Rattle.setters.specs.Filling.{Filled}
 use Rattle.setters.proofs.Naming.{beside}
 use Rattle.pacing.specs.Reads.{Stands, Meets}

@@ -20,9 +20,9 @@ use Rattle.pacing.proofs.Grows.{each-next, each-entered, set-below, las
 use Rattle.pacing.proofs.Actions.{oneAction, actions-more, action-changed}
 use Rattle.pacing.proofs.OneCondition.{conditions-more}
 use Rattle.pacing.proofs.Knowing.{variable-known, action-known, condition-known, times-known, task-known, seed-known, present-known, crew-known}
-use Rattle.entering.specs.declared.Progress.{Progress}
+use Rattle.advancing.specs.declared.Progress.{Progress}
 use Rattle.tables.specs.Tables.{Tables, tables, HoldsConditions, seedAt, HoldsCrew, HoldsCrews}
-use Rattle.entering.specs.Steps.{afterVariable, afterAction, afterCondition, afterTask, afterSeed, afterTimes, afterPresent, afterCrew, withMany, outBy}
+use Rattle.advancing.specs.Steps.{afterVariable, afterAction, afterCondition, afterTask, afterSeed, afterTimes, afterPresent, afterCrew, withMany, outBy}
 use Rattle.pacing.specs.Reads.{Behind, Stands}
 
 -- what the row's byte tells, where it has the situation's part

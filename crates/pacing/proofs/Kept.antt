@@ -7,9 +7,9 @@ use Prim.Native.Nat.{ℕ, _+_, _≤_, _<_}
 use native.Mathlib.Omega.{arith}
 use lib.ListN.{getD, set}
 use Rattle.plain.proofs.Lists.{one-set}
-use Rattle.entering.specs.declared.Progress.{Progress}
+use Rattle.advancing.specs.declared.Progress.{Progress}
 use Rattle.judging.specs.Faults.{variableFault, actionFault, conditionFault, taskFault, presentFault, crewFault}
-use Rattle.entering.specs.Steps.{afterVariable, afterAction, afterCondition, afterTask, afterSeed, afterTimes, afterPresent, afterCrew}
+use Rattle.advancing.specs.Steps.{afterVariable, afterAction, afterCondition, afterTask, afterSeed, afterTimes, afterPresent, afterCrew}
 use Rattle.pacing.specs.Reads.{Bounds}
 use Rattle.judging.proofs.Bounds.{variable-bounds, action-bounds, condition-bounds, task-bounds, present-bounds, crew-bounds}
 

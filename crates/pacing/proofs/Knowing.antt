@@ -17,8 +17,8 @@ use Rattle.study.specs.Uses.{uses}
 use Rattle.study.proofs.Uses.{uses-with-action, uses-with-condition, uses-with-times}
 use Rattle.plain.proofs.Lists.{length-more}
 use Rattle.lawful.proofs.Faults.{faultless-in}
-use Rattle.entering.specs.declared.Progress.{Progress}
-use Rattle.entering.specs.Steps.{afterVariable, afterAction, afterCondition, afterTask, afterSeed, afterTimes, afterPresent, afterCrew}
+use Rattle.advancing.specs.declared.Progress.{Progress}
+use Rattle.advancing.specs.Steps.{afterVariable, afterAction, afterCondition, afterTask, afterSeed, afterTimes, afterPresent, afterCrew}
 use Rattle.pacing.specs.Reads.{Knows}
 use Rattle.pacing.proofs.Grows.{each-entered, table-more, last-more, last-set}
 use Rattle.pacing.proofs.OneCondition.{above-more}

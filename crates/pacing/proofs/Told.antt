@@ -10,7 +10,7 @@ use lib.ListN.{length, getD}
 use borrow.Author.Tests.{ltb-true}
 use Rattle.plain.proofs.Tests.{and-same}
 use Rattle.study.specs.Reading.{Draft, fault, faultIn, variable, action, condition, task, seed, times, present, crew}
-use Rattle.entering.specs.declared.Progress.{Progress}
+use Rattle.advancing.specs.declared.Progress.{Progress}
 use Rattle.tables.specs.Tables.{HoldsCounts}
 use Rattle.judging.specs.Faults.{inTable, variableFault, actionFault, conditionFault, taskFault, seedFault, timesFault, presentFault, crewFault}
 use Rattle.pacing.specs.Reads.{Knows}

@@ -9,7 +9,7 @@ use Rattle.bits.specs.Bits.{LowestClear}
 use Rattle.study.specs.Uses.{firstUnused}
 use Rattle.study.specs.Reading.{Draft}
 use Rattle.study.proofs.Uses.{nothing-unused, lowest-is-found}
-use Rattle.entering.specs.declared.Progress.{Progress}
+use Rattle.advancing.specs.declared.Progress.{Progress}
 use Rattle.pacing.specs.Reads.{Knows}
 
 module _ {p : Progress} {table : List ℕ} {d : Draft} (knows : Knows p table d) {k : ℕ} (lowest : LowestClear 64 (p .used) k) where

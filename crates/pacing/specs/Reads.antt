@@ -16,9 +16,9 @@ use Rattle.records.specs.declared.Found.{Found}
 use Rattle.records.specs.declared.Found.the-variants.{There, Unknown, Cut, Ended}
 use Rattle.tables.specs.Tables.{Tables, Sized, HoldsCounts, HoldsActions, HoldsCrews, HoldsRoster}
 use Rattle.lawful.proofs.Order.{stage}
-use Rattle.entering.specs.declared.Progress.{Progress}
-use Rattle.entering.specs.declared.Step.{Step}
-use Rattle.entering.specs.declared.Step.the-variants.{On, Refused, Done}
+use Rattle.advancing.specs.declared.Progress.{Progress}
+use Rattle.advancing.specs.declared.Step.{Step}
+use Rattle.advancing.specs.declared.Step.the-variants.{On, Refused, Done}
 
 -- where no whole record of a known kind stands
 abbrev pub notThere : Bool → ℕ → Found → Step

@@ -11,8 +11,8 @@ ghost use Rattle.records.specs.declared.Found.the-variants.{There};
 ghost use Rattle.tables.specs.Tables.{tables, seedOf};
 ghost use Rattle.tables.specs.Rows.{countColumn, seen, seenAll};
 ghost use Rattle.pacing.specs.Reads.{Safe, Stands, Further, Meets, notThere};
-use entering::Progress;
-use entering::Step;
+use advancing::Progress;
+use advancing::Step;
 use judging::order;
 use records::Found;
 
@@ -127,7 +127,7 @@ fn take(
             acts,
         ),
         3 => entering::on_condition(p, file[start], file[start + 1], start + 2, vars, acts),
-        4 => entering::on_task(
+        4 => advancing::on_task(
             p,
             file[start],
             file[start + 1],
@@ -147,8 +147,8 @@ fn take(
             crews,
         ),
         7 => entering::on_times(p, file[start], start + 1, acts),
-        8 => entering::on_present(p, file[start], start + 1),
-        9 => entering::on_crew(p, start),
+        8 => advancing::on_present(p, file[start], start + 1),
+        9 => advancing::on_crew(p, start),
         _ => on_end(p, file.len(), start, acts, setters),
     }
 }

@@ -8,7 +8,7 @@ use borrow.Author.Needs.{needs}
 use Rattle.tables.specs.Rows.{countColumn}
 use Rattle.judging.specs.Faults.{actionFault}
 use Rattle.judging.proofs.Bounds.{action-bounds}
-use Rattle.entering.specs.Steps.{afterAction}
+use Rattle.advancing.specs.Steps.{afterAction}
 use Rattle.pacing.proofs.Kept.{action-kept}
 use Rattle.drafting.proofs.Turns.{action-early, not-far}
 use Rattle.drafting.proofs.OneRecord.{keeps-unless, action-leads}

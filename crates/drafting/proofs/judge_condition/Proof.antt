@@ -9,7 +9,7 @@ use borrow.Author.Needs.{needs}
 use Rattle.tables.specs.Rows.{countColumn}
 use Rattle.judging.specs.Faults.{conditionFault}
 use Rattle.judging.proofs.Bounds.{condition-bounds}
-use Rattle.entering.specs.Steps.{afterCondition}
+use Rattle.advancing.specs.Steps.{afterCondition}
 use Rattle.pacing.proofs.Kept.{condition-kept}
 use Rattle.drafting.proofs.Turns.{not-far}
 use Rattle.drafting.proofs.OneRecord.{keeps-unless, condition-leads}

@@ -10,8 +10,8 @@ use denote.Ref.{now}
 use borrow.Author.Needs.{needs}
 use borrow.Author.Tests.{eqb-true, eqb-false, ne-eqb}
 use Rattle.tables.specs.Rows.{countColumn}
-use Rattle.entering.specs.declared.Progress.{Progress}
-use Rattle.entering.specs.declared.Step.{Step}
+use Rattle.advancing.specs.declared.Progress.{Progress}
+use Rattle.advancing.specs.declared.Step.{Step}
 use Rattle.pacing.specs.Reads.{Bounds}
 use Rattle.spelling.specs.Lists.{crewRecords}
 use Rattle.spelling.specs.Lent.{errandsIn, crewsIn}

@@ -7,7 +7,7 @@ use borrow.Author.Needs.{needs}
 use borrow.Author.Tests.{eq-eqb, ne-eqb}
 use Rattle.judging.specs.Faults.{presentFault}
 use Rattle.judging.proofs.Bounds.{present-bounds}
-use Rattle.entering.specs.Steps.{afterPresent}
+use Rattle.advancing.specs.Steps.{afterPresent}
 use Rattle.pacing.specs.Reads.{origin}
 use Rattle.pacing.proofs.Kept.{present-kept}
 use Rattle.drafting.proofs.Stops.{on-keeps, on-leads}

@@ -5,7 +5,7 @@ use borrow.Author.Needs.{needs}
 use Rattle.study.specs.Reading.{seed}
 use Rattle.judging.specs.Faults.{seedFault}
 use Rattle.judging.proofs.Tests.{not-taken, not-left}
-use Rattle.entering.specs.Steps.{afterSeed}
+use Rattle.advancing.specs.Steps.{afterSeed}
 use Rattle.pacing.proofs.Kept.{seed-kept}
 use Rattle.drafting.proofs.Turns.{task-early}
 use Rattle.drafting.proofs.Stops.{refused-keeps}

@@ -9,7 +9,7 @@ use Rattle.tables.specs.Rows.{countColumn}
 use Rattle.study.specs.Reading.{task}
 use Rattle.judging.specs.Faults.{taskFault}
 use Rattle.judging.proofs.Bounds.{task-bounds}
-use Rattle.entering.specs.Steps.{afterTask}
+use Rattle.advancing.specs.Steps.{afterTask}
 use Rattle.pacing.proofs.Kept.{task-kept}
 use Rattle.drafting.proofs.Turns.{task-early, task-wanted, no-task-wanted, next-task, not-far}
 use Rattle.drafting.proofs.Stops.{refused-keeps}

@@ -8,7 +8,7 @@ use borrow.Author.Needs.{needs}
 use Rattle.plain.specs.Choose.{pick}
 use Rattle.tables.specs.Rows.{countColumn}
 use Rattle.judging.specs.Faults.{variableFault}
-use Rattle.entering.specs.Steps.{afterVariable}
+use Rattle.advancing.specs.Steps.{afterVariable}
 use Rattle.pacing.proofs.Kept.{variable-kept}
 use Rattle.drafting.proofs.Turns.{variable-early, not-far}
 use Rattle.drafting.proofs.OneRecord.{keeps-unless, variable-leads}

@@ -7,9 +7,9 @@ use native.Mathlib.Omega.{arith}
 use types.Run.{OneOf}
 use denote.Enum.Declared.{tagOf}
 use borrow.Author.Needs.{needs}
-use Rattle.entering.specs.declared.Step.{Step}
-use Rattle.entering.specs.declared.Step.the-variants.{On, Refused, Done}
-use Rattle.entering.proofs.Step.{the-type}
+use Rattle.advancing.specs.declared.Step.{Step}
+use Rattle.advancing.specs.declared.Step.the-variants.{On, Refused, Done}
+use Rattle.advancing.proofs.Step.{the-type}
 use Rattle.drafting.specs.Drafts.{refusalOf}
 use Rattle.drafting.specs.declared.Judged.the-variants as Said-of
 use Rattle.drafting.proofs.refusal.Statement.{statement}

@@ -11,9 +11,9 @@ use borrow.Author.Tests.{eqb-true}
 use Rattle.tables.specs.Rows.{countColumn}
 use Rattle.judging.specs.Faults.{actionFault}
 use Rattle.judging.proofs.Bounds.{action-bounds}
-use Rattle.entering.specs.declared.Progress.{Progress}
-use Rattle.entering.specs.Steps.{afterAction}
-use Rattle.entering.proofs.Judged.{goes-on, stops}
+use Rattle.advancing.specs.declared.Progress.{Progress}
+use Rattle.advancing.specs.Steps.{afterAction}
+use Rattle.advancing.proofs.Judged.{goes-on, stops}
 use Rattle.entering.proofs.Rows.{action-stored}
 use Rattle.entering.proofs.on_action.Statement.{statement}
 use Rattle.entering.proofs.on_action.Tie as tie

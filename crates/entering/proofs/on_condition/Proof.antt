@@ -8,10 +8,10 @@ use denote.Ref.{now}
 use borrow.Author.Needs.{needs}
 use Rattle.tables.specs.Rows.{countColumn}
 use Rattle.judging.specs.Faults.{conditionFault}
-use Rattle.entering.specs.declared.Progress.{Progress}
-use Rattle.entering.specs.declared.Step.the-variants.{On}
-use Rattle.entering.specs.Steps.{afterCondition}
-use Rattle.entering.proofs.Judged.{goes-on, went-on, stops}
+use Rattle.advancing.specs.declared.Progress.{Progress}
+use Rattle.advancing.specs.declared.Step.the-variants.{On}
+use Rattle.advancing.specs.Steps.{afterCondition}
+use Rattle.advancing.proofs.Judged.{goes-on, went-on, stops}
 use Rattle.entering.proofs.on_condition.Statement.{statement}
 use Rattle.entering.proofs.on_condition.Tie as tie
 

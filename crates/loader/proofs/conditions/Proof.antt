@@ -13,7 +13,7 @@ use Rattle.records.proofs.Laws.{there-lies}
 use Rattle.tables.specs.Tables.{ActionTables, tables}
 use Rattle.tables.specs.Rows.{countColumn}
 use Rattle.judging.proofs.Bounds.{condition-bounds}
-use Rattle.entering.specs.Steps.{withMany}
+use Rattle.advancing.specs.Steps.{withMany}
 use Rattle.pacing.specs.Reads.{Safe}
 use Rattle.loader.specs.Halfway.{Halfway}
 use Rattle.pacing.proofs.Kept.{condition-kept}

@@ -12,8 +12,8 @@ use Rattle.records.specs.declared.Found.the-variants.{There}
 use Rattle.records.proofs.Laws.{there-lies}
 use Rattle.tables.specs.Rows.{seen}
 use Rattle.judging.specs.Faults.{timesFault}
-use Rattle.entering.specs.Steps.{withMany, afterTimes}
-use Rattle.entering.proofs.Judged.{goes-on as faultless, stops, went-on}
+use Rattle.advancing.specs.Steps.{afterTimes, withMany}
+use Rattle.advancing.proofs.Judged.{goes-on as faultless, stops, went-on}
 use Rattle.pacing.proofs.Arms.{may-action, may-action-after-times}
 use Rattle.pacing.proofs.Kept.{times-kept}
 use Rattle.loader.proofs.Runs.{times-taken}

@@ -1,10 +1,10 @@
--- `entering::out_by` meets its contract: the bit says which.
+-- `advancing::out_by` meets its contract: the bit says which.
 -- Assumes nothing.
 use mathlib.Core.Path.{refl}
 use native.Mathlib.Omega.{arith}
 use borrow.Author.Needs.{needs}
-use Rattle.entering.proofs.out_by.Statement.{statement}
-use Rattle.entering.proofs.out_by.Tie as tie
+use Rattle.advancing.proofs.out_by.Statement.{statement}
+use Rattle.advancing.proofs.out_by.Tie as tie
 
 holds-requires : tie.Need-holds-requires
 holds-requires c κs = search needs

@@ -1,9 +1,9 @@
--- `entering::on_crew` meets its contract: the call's result is the fault, and the branch says whether it is 0.
+-- `advancing::on_crew` meets its contract: the call's result is the fault, and the branch says whether it is 0.
 -- Assumes nothing.
 use borrow.Author.Needs.{needs}
 use borrow.Author.Tests.{eq-eqb, ne-eqb}
-use Rattle.entering.proofs.on_crew.Statement.{statement}
-use Rattle.entering.proofs.on_crew.Tie as tie
+use Rattle.advancing.proofs.on_crew.Statement.{statement}
+use Rattle.advancing.proofs.on_crew.Tie as tie
 
 crew-fault-requires : tie.Need-crew-fault-requires
 crew-fault-requires c κs = search needs

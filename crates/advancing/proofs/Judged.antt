@@ -10,10 +10,10 @@ use lib.Dec.{eqb}
 use types.Run.{OneOf}
 use denote.Enum.Declared.{tagOf}
 use Rattle.plain.specs.Choose.{pick}
-use Rattle.entering.specs.declared.Progress.{Progress}
-use Rattle.entering.specs.declared.Step.{Step}
-use Rattle.entering.specs.declared.Step.the-variants.{On, Refused}
-use Rattle.entering.proofs.Step.{the-type}
+use Rattle.advancing.specs.declared.Progress.{Progress}
+use Rattle.advancing.specs.declared.Step.{Step}
+use Rattle.advancing.specs.declared.Step.the-variants.{On, Refused}
+use Rattle.advancing.proofs.Step.{the-type}
 
 pub same : {p q : Progress} → On p ≡ On q → p ≡ q
 same e = cc

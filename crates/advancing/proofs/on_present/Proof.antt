@@ -1,9 +1,9 @@
--- `entering::on_present` meets its contract: the call's result is the fault, and the branch says whether it is 0.
+-- `advancing::on_present` meets its contract: the call's result is the fault, and the branch says whether it is 0.
 -- Assumes nothing.
 use borrow.Author.Needs.{needs}
 use borrow.Author.Tests.{eq-eqb, ne-eqb}
-use Rattle.entering.proofs.on_present.Statement.{statement}
-use Rattle.entering.proofs.on_present.Tie as tie
+use Rattle.advancing.proofs.on_present.Statement.{statement}
+use Rattle.advancing.proofs.on_present.Tie as tie
 
 present-fault-requires : tie.Need-present-fault-requires
 present-fault-requires c κs = search needs

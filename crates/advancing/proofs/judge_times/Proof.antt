@@ -1,9 +1,9 @@
--- `entering::judge_times` meets its contract: the call's result is the fault, and the branch says whether it is 0.
+-- `advancing::judge_times` meets its contract: the call's result is the fault, and the branch says whether it is 0.
 -- Assumes nothing.
 use borrow.Author.Needs.{needs}
 use borrow.Author.Tests.{eq-eqb, ne-eqb}
-use Rattle.entering.proofs.judge_times.Statement.{statement}
-use Rattle.entering.proofs.judge_times.Tie as tie
+use Rattle.advancing.proofs.judge_times.Statement.{statement}
+use Rattle.advancing.proofs.judge_times.Tie as tie
 
 times-fault-requires : tie.Need-times-fault-requires
 times-fault-requires c κs = search needs

@@ -1,9 +1,9 @@
--- `entering::judge_seed` meets its contract: the call's result is the fault, and the branch says whether it is 0.
+-- `advancing::judge_seed` meets its contract: the call's result is the fault, and the branch says whether it is 0.
 -- Assumes nothing.
 use borrow.Author.Needs.{needs}
 use borrow.Author.Tests.{eq-eqb, ne-eqb}
-use Rattle.entering.proofs.judge_seed.Statement.{statement}
-use Rattle.entering.proofs.judge_seed.Tie as tie
+use Rattle.advancing.proofs.judge_seed.Statement.{statement}
+use Rattle.advancing.proofs.judge_seed.Tie as tie
 
 seed-fault-requires : tie.Need-seed-fault-requires
 seed-fault-requires c κs = search needs

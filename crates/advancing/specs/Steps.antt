@@ -7,9 +7,9 @@ use lib.ListN.{set}
 use Rattle.plain.specs.Choose.{pick}
 use Rattle.bits.specs.Bits.{bit, marked}
 use Rattle.tables.specs.Tables.{ActionTables, actionTables}
-use Rattle.entering.specs.declared.Progress.{Progress}
-use Rattle.entering.specs.declared.Step.{Step}
-use Rattle.entering.specs.declared.Step.the-variants.{On, Refused}
+use Rattle.advancing.specs.declared.Progress.{Progress}
+use Rattle.advancing.specs.declared.Step.{Step}
+use Rattle.advancing.specs.declared.Step.the-variants.{On, Refused}
 
 -- where the reading stands after each record
 

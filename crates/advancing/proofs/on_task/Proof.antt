@@ -1,12 +1,12 @@
--- `entering::on_task` meets its contract: the call's result is the fault, and the branch says whether it is 0.
+-- `advancing::on_task` meets its contract: the call's result is the fault, and the branch says whether it is 0.
 -- Assumes nothing.
 use mathlib.Core.Path.{sym, _∙_}
 use native.Mathlib.Omega.{arith}
 use Rattle.judging.proofs.Bounds.{task-bounds}
 use borrow.Author.Needs.{needs}
 use borrow.Author.Tests.{eq-eqb, ne-eqb}
-use Rattle.entering.proofs.on_task.Statement.{statement}
-use Rattle.entering.proofs.on_task.Tie as tie
+use Rattle.advancing.proofs.on_task.Statement.{statement}
+use Rattle.advancing.proofs.on_task.Tie as tie
 
 task-fault-requires : tie.Need-task-fault-requires
 task-fault-requires c κs = search needs

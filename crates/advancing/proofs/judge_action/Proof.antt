@@ -1,12 +1,12 @@
--- `entering::judge_action` meets its contract: the call's result is the fault, and the branch says whether it is 0.
+-- `advancing::judge_action` meets its contract: the call's result is the fault, and the branch says whether it is 0.
 -- Assumes nothing.
 use mathlib.Core.Path.{refl, sym, _∙_}
 use native.Mathlib.Omega.{arith}
 use borrow.Author.Needs.{needs}
 use borrow.Author.Tests.{eq-eqb, ne-eqb}
 use Rattle.judging.proofs.Bounds.{action-bounds}
-use Rattle.entering.proofs.judge_action.Statement.{statement}
-use Rattle.entering.proofs.judge_action.Tie as tie
+use Rattle.advancing.proofs.judge_action.Statement.{statement}
+use Rattle.advancing.proofs.judge_action.Tie as tie
 
 action-fault-requires : tie.Need-action-fault-requires
 action-fault-requires c κs = search needs
