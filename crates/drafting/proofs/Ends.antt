@@ -13,7 +13,7 @@ use Rattle.study.specs.Uses.{firstUnused}
 use Rattle.study.specs.Reading.{says, refused, Draft, end, rosterOf, fault, faultIn, firstRepeat, ended, taken, unless, mayFollow, reading}
 use Rattle.lawful.proofs.Sound.{Sound}
 use Rattle.advancing.specs.declared.Progress.{Progress}
-use Rattle.pacing.proofs.Reached.{settles}
+use Rattle.standing.proofs.Reached.{settles}
 use Rattle.spelling.specs.Spelling.{spelledRecord, spelled}
 use Rattle.spelling.specs.Lists.{Lists, listsOf, fileOf}
 use Rattle.spelling.proofs.ReadBack.{all-retold}

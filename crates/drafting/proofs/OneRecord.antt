@@ -15,11 +15,11 @@ use Rattle.judging.specs.Faults.{variableFault, actionFault, conditionFault, ta
 use Rattle.advancing.specs.declared.Progress.{Progress}
 use Rattle.advancing.specs.declared.Step.the-variants.{Refused}
 use Rattle.advancing.specs.Steps.{afterVariable, afterAction, afterCondition, afterTask, afterSeed, afterTimes, afterPresent, afterCrew, unlessFault, stored}
-use Rattle.pacing.specs.Reads.{Bounds, Knows}
-use Rattle.pacing.proofs.Arms.{allowed-is, may-condition}
-use Rattle.pacing.proofs.Reached.{settles, goes-further}
-use Rattle.pacing.proofs.Told.{variable-fault-is, action-fault-is, condition-fault-is, task-fault-is, seed-fault-is, times-fault-is, present-fault-is, crew-fault-is}
-use Rattle.pacing.proofs.Knowing.{variable-known, action-known, condition-known, task-known, seed-known, times-known, present-known, crew-known}
+use Rattle.standing.specs.Reads.{Bounds, Knows}
+use Rattle.standing.proofs.Arms.{allowed-is, may-condition}
+use Rattle.standing.proofs.Reached.{settles, goes-further}
+use Rattle.standing.proofs.Told.{variable-fault-is, action-fault-is, condition-fault-is, task-fault-is, seed-fault-is, times-fault-is, present-fault-is, crew-fault-is}
+use Rattle.standing.proofs.Knowing.{variable-known, action-known, condition-known, task-known, seed-known, times-known, present-known, crew-known}
 use Rattle.spelling.specs.Spelling.{kindOf, spelledRecord, spelled}
 use Rattle.spelling.proofs.Spelled.{rest-there, rest-inside, spelled-verdict}
 use Rattle.spelling.proofs.ReadBack.{retold-onward}

@@ -12,9 +12,9 @@ use Rattle.study.specs.Reading.{Record, variable, present, blank}
 use Rattle.tables.specs.Rows.{countColumn, column}
 use Rattle.lawful.specs.Lengths.{bytesOfPresent}
 use Rattle.advancing.specs.declared.Progress.{Progress}
-use Rattle.pacing.specs.Reads.{Bounds, origin}
-use Rattle.pacing.proofs.Reached.{begun}
-use Rattle.pacing.proofs.Start.{nothing-known}
+use Rattle.standing.specs.Reads.{Bounds, origin}
+use Rattle.standing.proofs.Reached.{begun}
+use Rattle.standing.proofs.Start.{nothing-known}
 use Rattle.spelling.specs.Spelling.{spelledRecord, spelled}
 use Rattle.spelling.specs.Lists.{presentRecord, actionRecords, crewRecords, recordsOf, fileOf}
 use Rattle.spelling.specs.Lent.{conditionsIn, actionsIn, errandsIn, crewsIn, lent}

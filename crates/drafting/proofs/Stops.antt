@@ -13,7 +13,7 @@ use Rattle.advancing.specs.declared.Step.{Step}
 use Rattle.advancing.specs.declared.Step.the-variants.{On, Refused, Done}
 use Rattle.advancing.proofs.Step.{the-type}
 use Rattle.advancing.proofs.Judged.{same, not-on}
-use Rattle.pacing.specs.Reads.{Bounds}
+use Rattle.standing.specs.Reads.{Bounds}
 use Rattle.drafting.specs.Judges.{JudgedAs}
 use Rattle.drafting.specs.Drafts.{Drafted, Leads, Keeps, refusalOf}
 

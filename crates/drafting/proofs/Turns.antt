@@ -13,7 +13,7 @@ use Rattle.plain.proofs.Tests.{either}
 use Rattle.study.specs.Study.{Action}
 use Rattle.study.specs.Reading.{Record, variable, action, condition, task, seed, end, times, present, crew, mayFollow}
 use Rattle.advancing.specs.declared.Progress.{Progress}
-use Rattle.pacing.specs.Reads.{Bounds}
+use Rattle.standing.specs.Reads.{Bounds}
 use Rattle.spelling.specs.Spelling.{kindOf}
 use Rattle.spelling.specs.Lists.{Errand, Team, taskRecord, actionRecords, behind, crewRecords}
 use Rattle.drafting.specs.Drafts.{NoVariableYet, VariablesGoOn, ActionsGoOn, TasksGoOn, BehindVariables}

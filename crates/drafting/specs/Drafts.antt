@@ -13,7 +13,7 @@ use Rattle.lawful.specs.Lengths.{bytesOfPresent}
 use Rattle.advancing.specs.declared.Progress.{Progress}
 use Rattle.advancing.specs.declared.Step.{Step}
 use Rattle.advancing.specs.declared.Step.the-variants.{On, Refused, Done}
-use Rattle.pacing.specs.Reads.{Bounds, Knows, Reached}
+use Rattle.standing.specs.Reads.{Bounds, Knows, Reached}
 use Rattle.spelling.specs.Spelling.{kindOf, spelled}
 use Rattle.spelling.specs.Lists.{Team, Lists, behind, crewRecords}
 use Rattle.spelling.proofs.ReadBack.{Retold}

@@ -6,7 +6,7 @@ ghost use Prim.Native.Nat.{ℕ, _+_, _*_, _≤_, _<_};
 ghost use lib.ListN.{length, drop, getD};
 ghost use Rattle.study.specs.Reading.{Record, variable, action, task, seed, end};
 ghost use Rattle.tables.specs.Rows.{countColumn};
-ghost use Rattle.pacing.specs.Reads.{Bounds, origin};
+ghost use Rattle.standing.specs.Reads.{Bounds, origin};
 ghost use Rattle.spelling.specs.Lists.{Lists, conditionRecord, timesRecord, presentRecord, taskRecord, actionRecords, crewRecords, fileOf};
 ghost use Rattle.spelling.specs.Lent.{number, unlentCondition, unlentErrand, conditionsIn, firstOf, actionsIn, errandsIn, crewsIn, lent};
 ghost use Rattle.drafting.specs.Judges.{JudgedAs};

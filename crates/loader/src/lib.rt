@@ -9,7 +9,7 @@ ghost use lib.ListN.{length};
 ghost use Rattle.tables.specs.Tables.{ActionTables, tables, Sized, Reads};
 ghost use Rattle.advancing.specs.Steps.{withMany};
 ghost use Rattle.tables.specs.Rows.{countColumn, seenAll};
-ghost use Rattle.pacing.specs.Reads.{Safe};
+ghost use Rattle.standing.specs.Reads.{Safe};
 ghost use Rattle.loader.specs.Halfway.{Halfway, beside};
 use advancing::Progress;
 use advancing::Step;

@@ -7,7 +7,7 @@ use native.Mathlib.Omega.{arith}
 use lib.ListN.{length, getD, set}
 use Rattle.study.specs.Study.{Crew}
 use Rattle.tables.specs.Tables.{HoldsTasks, HoldsCrew}
-use Rattle.pacing.proofs.Grows.{each-entered}
+use Rattle.standing.proofs.Grows.{each-entered}
 
 -- the first v tasks that stand from a place on are entered
 pub record Partly (file : List ℕ) (place v : ℕ) (starts goals : List ℕ) : Type 0 where

@@ -6,7 +6,7 @@ use denote.Ref.{now}
 use borrow.Author.Needs.{needs}
 use Rattle.study.specs.Reading.{Record, variable}
 use Rattle.tables.specs.Rows.{countColumn}
-use Rattle.pacing.specs.Reads.{origin}
+use Rattle.standing.specs.Reads.{origin}
 use Rattle.spelling.specs.Lists.{Lists, presentRecord, fileOf}
 use Rattle.spelling.specs.Lent.{conditionsIn, actionsIn, errandsIn, crewsIn, lent}
 use Rattle.drafting.specs.Drafts.{BehindVariables, Drafted}

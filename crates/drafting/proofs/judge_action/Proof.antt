@@ -9,7 +9,7 @@ use Rattle.tables.specs.Rows.{countColumn}
 use Rattle.judging.specs.Faults.{actionFault}
 use Rattle.judging.proofs.Bounds.{action-bounds}
 use Rattle.advancing.specs.Steps.{afterAction}
-use Rattle.pacing.proofs.Kept.{action-kept}
+use Rattle.standing.proofs.Kept.{action-kept}
 use Rattle.drafting.proofs.Turns.{action-early, not-far}
 use Rattle.drafting.proofs.OneRecord.{keeps-unless, action-leads}
 use Rattle.drafting.proofs.judge_action.Statement.{statement}

@@ -10,7 +10,7 @@ use borrow.Author.Needs.{needs}
 use borrow.Author.Tests.{eqb-true, eqb-false}
 use Rattle.study.specs.Reading.{Record}
 use Rattle.tables.specs.Rows.{countColumn}
-use Rattle.pacing.specs.Reads.{Bounds}
+use Rattle.standing.specs.Reads.{Bounds}
 use Rattle.spelling.specs.Lists.{actionRecords}
 use Rattle.spelling.specs.Lent.{actionsIn, conditionsIn}
 use Rattle.drafting.specs.Drafts.{ActionsGoOn, Drafted}

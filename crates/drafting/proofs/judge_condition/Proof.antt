@@ -10,7 +10,7 @@ use Rattle.tables.specs.Rows.{countColumn}
 use Rattle.judging.specs.Faults.{conditionFault}
 use Rattle.judging.proofs.Bounds.{condition-bounds}
 use Rattle.advancing.specs.Steps.{afterCondition}
-use Rattle.pacing.proofs.Kept.{condition-kept}
+use Rattle.standing.proofs.Kept.{condition-kept}
 use Rattle.drafting.proofs.Turns.{not-far}
 use Rattle.drafting.proofs.OneRecord.{keeps-unless, condition-leads}
 use Rattle.drafting.proofs.LentBytes.{condition-lent, condition-unlent}

@@ -12,7 +12,7 @@ use borrow.Author.Tests.{eqb-true, eqb-false, ne-eqb}
 use Rattle.tables.specs.Rows.{countColumn}
 use Rattle.advancing.specs.declared.Progress.{Progress}
 use Rattle.advancing.specs.declared.Step.{Step}
-use Rattle.pacing.specs.Reads.{Bounds}
+use Rattle.standing.specs.Reads.{Bounds}
 use Rattle.spelling.specs.Lists.{crewRecords}
 use Rattle.spelling.specs.Lent.{errandsIn, crewsIn}
 use Rattle.drafting.specs.Drafts.{CrewGoesOn, crewsToCome, Drafted, Keeps}

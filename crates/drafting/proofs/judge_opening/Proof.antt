@@ -4,7 +4,7 @@ use mathlib.Core.Path.{refl}
 use borrow.Author.Needs.{needs}
 use Rattle.judging.specs.Faults.{crewFault}
 use Rattle.advancing.specs.Steps.{afterCrew}
-use Rattle.pacing.proofs.Kept.{crew-kept}
+use Rattle.standing.proofs.Kept.{crew-kept}
 use Rattle.drafting.proofs.Turns.{first-task}
 use Rattle.drafting.proofs.Stops.{on-keeps, on-leads}
 use Rattle.drafting.proofs.OneRecord.{keeps-unless, crew-leads}

@@ -8,8 +8,8 @@ use borrow.Author.Tests.{eq-eqb, ne-eqb}
 use Rattle.judging.specs.Faults.{presentFault}
 use Rattle.judging.proofs.Bounds.{present-bounds}
 use Rattle.advancing.specs.Steps.{afterPresent}
-use Rattle.pacing.specs.Reads.{origin}
-use Rattle.pacing.proofs.Kept.{present-kept}
+use Rattle.standing.specs.Reads.{origin}
+use Rattle.standing.proofs.Kept.{present-kept}
 use Rattle.drafting.proofs.Stops.{on-keeps, on-leads}
 use Rattle.drafting.proofs.OneRecord.{keeps-unless, present-leads}
 use Rattle.drafting.proofs.Starts.{origin-bounds}

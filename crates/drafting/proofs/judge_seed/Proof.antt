@@ -6,7 +6,7 @@ use Rattle.study.specs.Reading.{seed}
 use Rattle.judging.specs.Faults.{seedFault}
 use Rattle.judging.proofs.Tests.{not-taken, not-left}
 use Rattle.advancing.specs.Steps.{afterSeed}
-use Rattle.pacing.proofs.Kept.{seed-kept}
+use Rattle.standing.proofs.Kept.{seed-kept}
 use Rattle.drafting.proofs.Turns.{task-early}
 use Rattle.drafting.proofs.Stops.{refused-keeps}
 use Rattle.drafting.proofs.OneRecord.{keeps-unless, not-in-turn, seed-leads}

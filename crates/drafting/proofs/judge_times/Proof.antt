@@ -6,7 +6,7 @@ use borrow.Author.Tests.{eq-eqb, ne-eqb}
 use Rattle.study.specs.Study.{always}
 use Rattle.judging.specs.Faults.{timesFault}
 use Rattle.advancing.specs.Steps.{afterTimes}
-use Rattle.pacing.proofs.Kept.{times-kept}
+use Rattle.standing.proofs.Kept.{times-kept}
 use Rattle.drafting.proofs.Turns.{behind-conditions, behind-situations}
 use Rattle.drafting.proofs.Stops.{on-keeps, on-leads}
 use Rattle.drafting.proofs.OneRecord.{keeps-unless, times-leads}

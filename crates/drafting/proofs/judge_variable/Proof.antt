@@ -9,7 +9,7 @@ use Rattle.plain.specs.Choose.{pick}
 use Rattle.tables.specs.Rows.{countColumn}
 use Rattle.judging.specs.Faults.{variableFault}
 use Rattle.advancing.specs.Steps.{afterVariable}
-use Rattle.pacing.proofs.Kept.{variable-kept}
+use Rattle.standing.proofs.Kept.{variable-kept}
 use Rattle.drafting.proofs.Turns.{variable-early, not-far}
 use Rattle.drafting.proofs.OneRecord.{keeps-unless, variable-leads}
 use Rattle.drafting.proofs.judge_variable.Statement.{statement}

@@ -10,7 +10,7 @@ use borrow.Author.Needs.{needs}
 use mathlib.Core.Path.{_≡_}
 use Rattle.study.specs.Reading.{Record, variable}
 use Rattle.tables.specs.Rows.{countColumn}
-use Rattle.pacing.specs.Reads.{Bounds}
+use Rattle.standing.specs.Reads.{Bounds}
 use Rattle.drafting.specs.Drafts.{VariablesGoOn, Drafted}
 use Rattle.drafting.proofs.Turns.{first-variable, next-variable}
 use Rattle.drafting.proofs.Stops.{on-keeps, on-leads, refused-keeps, stopped-keeps, stopped-leads}

@@ -14,9 +14,9 @@ use Rattle.tables.specs.Tables.{ActionTables, tables}
 use Rattle.tables.specs.Rows.{countColumn}
 use Rattle.judging.proofs.Bounds.{condition-bounds}
 use Rattle.advancing.specs.Steps.{withMany}
-use Rattle.pacing.specs.Reads.{Safe}
+use Rattle.standing.specs.Reads.{Safe}
 use Rattle.loader.specs.Halfway.{Halfway}
-use Rattle.pacing.proofs.Kept.{condition-kept}
+use Rattle.standing.proofs.Kept.{condition-kept}
 use Rattle.loader.proofs.Runs.{many-entered, condition-taken}
 use borrow.Author.Needs.{needs}
 use Rattle.loader.proofs.conditions.Statement.{statement}

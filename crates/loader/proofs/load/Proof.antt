@@ -6,7 +6,7 @@ use native.Mathlib.Omega.{arith}
 use lib.ListN.{length}
 use Rattle.tables.specs.Tables.{Sized}
 use Rattle.tables.specs.Rows.{countColumn, seenAll}
-use Rattle.pacing.specs.Reads.{Safe}
+use Rattle.standing.specs.Reads.{Safe}
 use Rattle.loader.specs.Halfway.{Halfway}
 use Rattle.loader.proofs.Pass.{begins, goes-on, refuses, ends}
 use borrow.Author.Needs.{needs}

@@ -14,8 +14,8 @@ use Rattle.tables.specs.Rows.{seen}
 use Rattle.judging.specs.Faults.{timesFault}
 use Rattle.advancing.specs.Steps.{afterTimes, withMany}
 use Rattle.advancing.proofs.Judged.{goes-on as faultless, stops, went-on}
-use Rattle.pacing.proofs.Arms.{may-action, may-action-after-times}
-use Rattle.pacing.proofs.Kept.{times-kept}
+use Rattle.standing.proofs.Arms.{may-action, may-action-after-times}
+use Rattle.standing.proofs.Kept.{times-kept}
 use Rattle.loader.proofs.Runs.{times-taken}
 use borrow.Author.Needs.{needs}
 use Rattle.loader.proofs.whole_action.Statement.{statement}

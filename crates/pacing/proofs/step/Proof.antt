@@ -8,7 +8,7 @@ use Rattle.study.proofs.Verdicts.{verdict-not-allowed}
 use Rattle.tables.specs.Tables.{Tables}
 use Rattle.tables.specs.Rows.{seenAll}
 use Rattle.judging.proofs.Tests.{not-taken, not-left}
-use Rattle.pacing.proofs.Arms.{allowed-is, not-there-arm}
+use Rattle.standing.proofs.Arms.{allowed-is, not-there-arm}
 use borrow.Author.Needs.{needs}
 use Rattle.pacing.proofs.step.Statement.{statement}
 use Rattle.pacing.proofs.step.Tie as tie

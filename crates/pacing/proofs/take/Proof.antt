@@ -15,7 +15,7 @@ use Rattle.records.proofs.Laws.{there-lies, beyond-the-kinds}
 use Rattle.study.specs.Reading.{mayFollow}
 use Rattle.tables.specs.Tables.{Tables}
 use Rattle.tables.specs.Rows.{seenAll}
-use Rattle.pacing.proofs.Arms.{body-inside, where-it-ends, action-place, condition-action, times-action, variable-arm, action-arm, condition-arm, task-arm, seed-arm, times-arm, present-arm, end-verdict, seed-place, crew-arm}
+use Rattle.standing.proofs.Arms.{body-inside, where-it-ends, action-place, condition-action, times-action, variable-arm, action-arm, condition-arm, task-arm, seed-arm, times-arm, present-arm, end-verdict, seed-place, crew-arm}
 use borrow.Author.Needs.{needs}
 use Rattle.pacing.proofs.take.Statement.{statement}
 use Rattle.pacing.proofs.take.Tie as tie

@@ -8,5 +8,4 @@ pub mod Start
 pub mod Entered
 pub mod Kept
 pub mod Unused
-pub mod Ends
 pub mod Arms

@@ -10,7 +10,7 @@ use Rattle.study.specs.Uses.{firstUnused}
 use Rattle.study.specs.Reading.{Draft}
 use Rattle.study.proofs.Uses.{nothing-unused, lowest-is-found}
 use Rattle.advancing.specs.declared.Progress.{Progress}
-use Rattle.pacing.specs.Reads.{Knows}
+use Rattle.standing.specs.Reads.{Knows}
 
 module _ {p : Progress} {table : List ℕ} {d : Draft} (knows : Knows p table d) {k : ℕ} (lowest : LowestClear 64 (p .used) k) where
   pub unused-is : k < p .vars → firstUnused (d .study) ≡ some k

@@ -1,14 +1,14 @@
--- `pacing::on_end` meets its contract: what filling the table of setters came to says whether an action repeats, and the set of used variables whether one is not used.
+-- `ending::on_end` meets its contract: what filling the table of setters came to says whether an action repeats, and the set of used variables whether one is not used.
 -- Assumes nothing.
 use mathlib.Core.Path.{_≡_, sym, _∙_, subst}
 use Prim.Native.Nat.{ℕ}
 use native.Mathlib.Omega.{arith}
 use borrow.Author.Needs.{needs}
 use Rattle.bits.specs.Bits.{LowestClear}
-use Rattle.pacing.proofs.Unused.{unused-is, none-is-unused}
-use Rattle.pacing.proofs.Ends.{ends-with-7, ends-with-21, ends-with-8, ends-well}
-use Rattle.pacing.proofs.on_end.Statement.{statement}
-use Rattle.pacing.proofs.on_end.Tie as tie
+use Rattle.standing.proofs.Unused.{unused-is, none-is-unused}
+use Rattle.ending.proofs.Ends.{ends-with-7, ends-with-21, ends-with-8, ends-well}
+use Rattle.ending.proofs.on_end.Statement.{statement}
+use Rattle.ending.proofs.on_end.Tie as tie
 
 fill-requires : tie.Need-fill-requires
 fill-requires c κs = search needs

@@ -14,7 +14,7 @@ use Rattle.advancing.specs.declared.Progress.{Progress}
 use Rattle.advancing.specs.declared.Step.the-variants.{Done}
 use Rattle.setters.specs.Filling.{Filled}
 use Rattle.setters.proofs.Naming.{beside}
-use Rattle.pacing.specs.Reads.{Stands, Meets}
+use Rattle.standing.specs.Reads.{Stands, Meets}
 
 module _ {file : List ℕ} {p : Progress} {t : Tables} {begins : List ℕ} {d : Draft} (stands : Stands file p t begins d) {setters : List ℕ} {r : ℕ} (filled : Filled (d .study .situation) (p .actions) (d .study .actions) setters r) (next : ℕ) where
   abbrev says-so : Option ℕ → Verdict

@@ -11,7 +11,7 @@ use Rattle.study.specs.Study.{Condition, conditionAt, noCondition}
 use Rattle.study.specs.Reading.{above}
 use Rattle.plain.proofs.Lists.{length-more}
 use Rattle.tables.specs.Tables.{HoldsConditions}
-use Rattle.pacing.proofs.Grows.{each-next}
+use Rattle.standing.proofs.Grows.{each-next}
 
 pub conditions-more :
     {file : List ℕ} {place many : ℕ} {cs : List Condition} (c : Condition)

@@ -8,7 +8,7 @@ use lib.Dec.{leb·zero}
 use Rattle.bits.proofs.Words.{bit-zero}
 use Rattle.study.specs.Reading.{blank, above}
 use Rattle.study.specs.Uses.{uses}
-use Rattle.pacing.specs.Reads.{Knows, origin}
+use Rattle.standing.specs.Reads.{Knows, origin}
 
 pub nothing-known : (counts : List ℕ) → Knows origin counts blank
 unfolding above uses

@@ -16,14 +16,14 @@ use Rattle.study.specs.Study.{Task, Crew, always, inForce, actionAt, taskAt, cr
 use Rattle.study.specs.Reading.{Draft, faultIn, with, manned, placed, drafted, variable, action, condition, task, seed, times, present, crew, withCondition, within}
 use Rattle.lawful.proofs.Faults.{faultless-in}
 use Rattle.lawful.proofs.Order.{stage, stage-same}
-use Rattle.pacing.proofs.Grows.{each-next, each-entered, set-below, last-entered}
-use Rattle.pacing.proofs.Actions.{oneAction, actions-more, action-changed}
-use Rattle.pacing.proofs.OneCondition.{conditions-more}
-use Rattle.pacing.proofs.Knowing.{variable-known, action-known, condition-known, times-known, task-known, seed-known, present-known, crew-known}
+use Rattle.standing.proofs.Grows.{each-next, each-entered, set-below, last-entered}
+use Rattle.standing.proofs.Actions.{oneAction, actions-more, action-changed}
+use Rattle.standing.proofs.OneCondition.{conditions-more}
+use Rattle.standing.proofs.Knowing.{variable-known, action-known, condition-known, times-known, task-known, seed-known, present-known, crew-known}
 use Rattle.advancing.specs.declared.Progress.{Progress}
 use Rattle.tables.specs.Tables.{Tables, tables, HoldsConditions, seedAt, HoldsCrew, HoldsCrews}
 use Rattle.advancing.specs.Steps.{afterVariable, afterAction, afterCondition, afterTask, afterSeed, afterTimes, afterPresent, afterCrew, withMany, outBy}
-use Rattle.pacing.specs.Reads.{Behind, Stands}
+use Rattle.standing.specs.Reads.{Behind, Stands}
 
 -- what the row's byte tells, where it has the situation's part
 out-by-tells : (b : Bool) {many : ℕ} → many ≤ 32 → (eqb ((many + pick b 0 64) / 64) 0 ≡ b) × ((many + pick b 0 64) % 64 ≡ many)

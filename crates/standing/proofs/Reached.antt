@@ -8,7 +8,7 @@ use lib.ListN.{length}
 use Rattle.study.specs.Study.{Roster}
 use Rattle.study.specs.Reading.{Said, Draft, blank, settled, onward, verdictAt, reading}
 use Rattle.study.proofs.Verdicts.{read-settled, read-onward}
-use Rattle.pacing.specs.Reads.{Reached}
+use Rattle.standing.specs.Reads.{Reached}
 
 pub begun : (file : List ℕ) → Reached file 0 blank
 unfolding reading

@@ -15,7 +15,7 @@ use Rattle.bits.specs.Bits.{bit}
 use Rattle.study.specs.Study.{Action, always, inForce, actionAt, noAction}
 use Rattle.tables.specs.Tables.{ActionTables, Tables, actionTables, Sized, HoldsConditions, HoldsAction, HoldsActions}
 use Rattle.advancing.specs.Steps.{withMany}
-use Rattle.pacing.proofs.Grows.{each-next, set-below}
+use Rattle.standing.proofs.Grows.{each-next, set-below}
 
 abbrev pub oneAction : ActionTables → (i v x y next : ℕ) → ActionTables
 oneAction t i v x y next =

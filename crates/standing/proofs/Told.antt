@@ -13,7 +13,7 @@ use Rattle.study.specs.Reading.{Draft, fault, faultIn, variable, action, condit
 use Rattle.advancing.specs.declared.Progress.{Progress}
 use Rattle.tables.specs.Tables.{HoldsCounts}
 use Rattle.judging.specs.Faults.{inTable, variableFault, actionFault, conditionFault, taskFault, seedFault, timesFault, presentFault, crewFault}
-use Rattle.pacing.specs.Reads.{Knows}
+use Rattle.standing.specs.Reads.{Knows}
 
 in-table-is :
     {n : ℕ} {table counts : List ℕ}

@@ -19,9 +19,9 @@ use Rattle.plain.proofs.Lists.{length-more}
 use Rattle.lawful.proofs.Faults.{faultless-in}
 use Rattle.advancing.specs.declared.Progress.{Progress}
 use Rattle.advancing.specs.Steps.{afterVariable, afterAction, afterCondition, afterTask, afterSeed, afterTimes, afterPresent, afterCrew}
-use Rattle.pacing.specs.Reads.{Knows}
-use Rattle.pacing.proofs.Grows.{each-entered, table-more, last-more, last-set}
-use Rattle.pacing.proofs.OneCondition.{above-more}
+use Rattle.standing.specs.Reads.{Knows}
+use Rattle.standing.proofs.Grows.{each-entered, table-more, last-more, last-set}
+use Rattle.standing.proofs.OneCondition.{above-more}
 
 module _ {p : Progress} {counts : List ℕ} {d : Draft} (knows : Knows p counts d) (next : ℕ) where
   pub variable-known :

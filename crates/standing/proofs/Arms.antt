@@ -25,10 +25,10 @@ use Rattle.advancing.specs.declared.Step.{Step}
 use Rattle.tables.specs.Tables.{Tables, tables, actionTables, seedOf, seedAt}
 use Rattle.judging.specs.Faults.{variableFault, actionFault, conditionFault, taskFault, seedFault, timesFault, presentFault, crewFault}
 use Rattle.advancing.specs.Steps.{afterVariable, afterAction, afterCondition, afterTask, afterSeed, afterTimes, afterPresent, afterCrew, unlessFault, stored, storedAction, storedMany, outBy}
-use Rattle.pacing.specs.Reads.{Safe, Knows, Stands, Further, Meets, notThere}
-use Rattle.pacing.proofs.Told.{variable-fault-is, action-fault-is, condition-fault-is, task-fault-is, seed-fault-is, times-fault-is, present-fault-is, crew-fault-is}
-use Rattle.pacing.proofs.Entered.{variable-entered, action-entered, condition-entered, times-entered, task-entered, seed-entered, present-entered, crew-entered}
-use Rattle.pacing.proofs.Kept.{variable-kept, action-kept, condition-kept, times-kept, task-kept, seed-kept, present-kept, crew-kept}
+use Rattle.standing.specs.Reads.{Safe, Knows, Stands, Further, Meets, notThere}
+use Rattle.standing.proofs.Told.{variable-fault-is, action-fault-is, condition-fault-is, task-fault-is, seed-fault-is, times-fault-is, present-fault-is, crew-fault-is}
+use Rattle.standing.proofs.Entered.{variable-entered, action-entered, condition-entered, times-entered, task-entered, seed-entered, present-entered, crew-entered}
+use Rattle.standing.proofs.Kept.{variable-kept, action-kept, condition-kept, times-kept, task-kept, seed-kept, present-kept, crew-kept}
 
 -- what a step is to do
 abbrev pub Answers : List ℕ → Progress → Tables → List ℕ → Tables → List ℕ → Step → Type 0

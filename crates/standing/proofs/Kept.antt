@@ -10,7 +10,7 @@ use Rattle.plain.proofs.Lists.{one-set}
 use Rattle.advancing.specs.declared.Progress.{Progress}
 use Rattle.judging.specs.Faults.{variableFault, actionFault, conditionFault, taskFault, presentFault, crewFault}
 use Rattle.advancing.specs.Steps.{afterVariable, afterAction, afterCondition, afterTask, afterSeed, afterTimes, afterPresent, afterCrew}
-use Rattle.pacing.specs.Reads.{Bounds}
+use Rattle.standing.specs.Reads.{Bounds}
 use Rattle.judging.proofs.Bounds.{variable-bounds, action-bounds, condition-bounds, task-bounds, present-bounds, crew-bounds}
 
 module _ {p : Progress} {counts : List ℕ} (bounds : Bounds p counts) (next : ℕ) where
