@@ -9,3 +9,5 @@ pub mod Entered
 pub mod Kept
 pub mod Unused
 pub mod Arms
+pub mod Pass
+pub mod Runs

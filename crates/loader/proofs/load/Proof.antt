@@ -7,8 +7,8 @@ use lib.ListN.{length}
 use Rattle.tables.specs.Tables.{Sized}
 use Rattle.tables.specs.Rows.{countColumn, seenAll}
 use Rattle.standing.specs.Reads.{Safe}
-use Rattle.loader.specs.Halfway.{Halfway}
-use Rattle.loader.proofs.Pass.{begins, goes-on, refuses, ends}
+use Rattle.standing.specs.Halfway.{Halfway}
+use Rattle.standing.proofs.Pass.{begins, goes-on, refuses, ends}
 use borrow.Author.Needs.{needs}
 use Rattle.loader.proofs.load.Statement.{statement}
 use Rattle.loader.proofs.load.Tie as tie

@@ -10,11 +10,11 @@ use Rattle.advancing.specs.declared.Progress.{Progress}
 use Rattle.advancing.specs.declared.Step.the-variants.{On, Refused, Done}
 use Rattle.tables.specs.declared.Read.the-variants as Read-of
 use Rattle.tables.specs.Tables.{Tables, Sized, Reads}
 use Rattle.standing.specs.Reads.{Safe, origin}
-use Rattle.loader.specs.Halfway.{Halfway}
+use Rattle.standing.specs.Halfway.{Halfway}
 use Rattle.standing.proofs.Arms.{Answers}
 use Rattle.standing.proofs.Reached.{begun, settles, goes-further}
 use Rattle.standing.proofs.Start.{nothing-known}
 
 pub begins : (file : List ℕ) {t : Tables} {crews : List ℕ} → Sized t → length crews ≡ 8 → Halfway file t crews origin
 begins file sized eight =

@@ -1,4 +1,4 @@
--- `loader::whole_action` meets its contract: a run of conditions is read, and their number entered, with the situations where they follow.
+-- `gathering::whole_action` meets its contract: a run of conditions is read, and their number entered, with the situations where they follow.
 -- Assumes nothing.
 use mathlib.Core.Path.{_≡_, refl, ap, _∙_}
 use mathlib.Core.Logic.{⊎-elim}
@@ -16,10 +16,10 @@ use Rattle.advancing.specs.Steps.{afterTimes, withMany}
 use Rattle.advancing.proofs.Judged.{goes-on as faultless, stops, went-on}
 use Rattle.standing.proofs.Arms.{may-action, may-action-after-times}
 use Rattle.standing.proofs.Kept.{times-kept}
-use Rattle.loader.proofs.Runs.{times-taken}
+use Rattle.standing.proofs.Runs.{times-taken}
 use borrow.Author.Needs.{needs}
-use Rattle.loader.proofs.whole_action.Statement.{statement}
-use Rattle.loader.proofs.whole_action.Tie as tie
+use Rattle.gathering.proofs.whole_action.Statement.{statement}
+use Rattle.gathering.proofs.whole_action.Tie as tie
 
 is-there :
     (c : tie.Then1)

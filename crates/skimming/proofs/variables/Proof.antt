@@ -1,4 +1,4 @@
--- `loader::variables` meets its contract: each turn takes one variable.
+-- `skimming::variables` meets its contract: each turn takes one variable.
 -- Assumes nothing.
 use mathlib.Core.Path.{_≡_, refl, ap, _∙_}
 use mathlib.Core.List.{List, []}
@@ -20,11 +20,11 @@ use Rattle.advancing.specs.Steps.{afterVariable}
 use Rattle.advancing.proofs.Judged.{goes-on as faultless, stops, went-on}
 use Rattle.standing.specs.Reads.{Safe}
 use Rattle.standing.proofs.Arms.{Answers}
-use Rattle.loader.specs.Halfway.{Halfway, beside}
-use Rattle.loader.proofs.Pass.{goes-on}
-use Rattle.loader.proofs.Runs.{variable-taken}
-use Rattle.loader.proofs.variables.Statement.{statement}
-use Rattle.loader.proofs.variables.Tie as tie
+use Rattle.standing.specs.Halfway.{Halfway, beside}
+use Rattle.standing.proofs.Pass.{goes-on}
+use Rattle.standing.proofs.Runs.{variable-taken}
+use Rattle.skimming.proofs.variables.Statement.{statement}
+use Rattle.skimming.proofs.variables.Tie as tie
 
 abbrev Inv-loop : tie.InvT-loop
 Inv-loop file rows₀ p₀ rows p =

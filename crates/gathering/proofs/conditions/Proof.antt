@@ -1,4 +1,4 @@
--- `loader::conditions` meets its contract: each turn takes one condition.
+-- `gathering::conditions` meets its contract: each turn takes one condition.
 -- Assumes nothing.
 use Prim.Native.Nat.{ℕ, _+_, _-_, _≤_}
 use native.Mathlib.Omega.{arith}
@@ -15,12 +15,12 @@ use Rattle.tables.specs.Rows.{countColumn}
 use Rattle.judging.proofs.Bounds.{condition-bounds}
 use Rattle.advancing.specs.Steps.{withMany}
 use Rattle.standing.specs.Reads.{Safe}
-use Rattle.loader.specs.Halfway.{Halfway}
+use Rattle.standing.specs.Halfway.{Halfway}
 use Rattle.standing.proofs.Kept.{condition-kept}
-use Rattle.loader.proofs.Runs.{many-entered, condition-taken}
+use Rattle.standing.proofs.Runs.{many-entered, condition-taken}
 use borrow.Author.Needs.{needs}
-use Rattle.loader.proofs.conditions.Statement.{statement}
-use Rattle.loader.proofs.conditions.Tie as tie
+use Rattle.gathering.proofs.conditions.Statement.{statement}
+use Rattle.gathering.proofs.conditions.Tie as tie
 
 abbrev Inv-loop : tie.InvT-loop
 Inv-loop file rows p₀ p =

@@ -17,10 +17,10 @@ use Rattle.judging.specs.Faults.{variableFault, actionFault, conditionFault, ta
 use Rattle.advancing.specs.declared.Progress.{Progress}
 use Rattle.advancing.specs.declared.Step.the-variants.{On}
 use Rattle.advancing.specs.Steps.{afterVariable, afterAction, afterCondition, afterTask, afterTimes, stored, storedAction, withMany, storedMany, outBy}
 use Rattle.standing.specs.Reads.{Safe}
-use Rattle.loader.specs.Halfway.{Halfway}
+use Rattle.standing.specs.Halfway.{Halfway}
 use Rattle.standing.proofs.Arms.{Answers, may-condition, may-times, variable-arm, action-arm, condition-arm, task-arm, times-arm}
-use Rattle.loader.proofs.Pass.{goes-on}
+use Rattle.standing.proofs.Pass.{goes-on}
 
 -- the conditions of the last action: the tables are told of with their number entered, though it is entered only after the last of them
 abbrev pub Entered : ActionTables → Progress → ActionTables

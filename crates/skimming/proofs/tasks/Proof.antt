@@ -1,4 +1,4 @@
--- `loader::tasks` meets its contract: each turn takes one task, while a variable is left.
+-- `skimming::tasks` meets its contract: each turn takes one task, while a variable is left.
 -- Assumes nothing.
 use mathlib.Core.Path.{_≡_, refl, ap}
 use mathlib.Core.List.{List, []}
@@ -20,11 +20,11 @@ use Rattle.advancing.specs.Steps.{afterTask}
 use Rattle.advancing.proofs.Judged.{goes-on as faultless, stops, went-on}
 use Rattle.standing.specs.Reads.{Safe}
 use Rattle.standing.proofs.Arms.{Answers}
-use Rattle.loader.specs.Halfway.{Halfway}
-use Rattle.loader.proofs.Pass.{goes-on}
-use Rattle.loader.proofs.Runs.{task-taken}
-use Rattle.loader.proofs.tasks.Statement.{statement}
-use Rattle.loader.proofs.tasks.Tie as tie
+use Rattle.standing.specs.Halfway.{Halfway}
+use Rattle.standing.proofs.Pass.{goes-on}
+use Rattle.standing.proofs.Runs.{task-taken}
+use Rattle.skimming.proofs.tasks.Statement.{statement}
+use Rattle.skimming.proofs.tasks.Tie as tie
 
 abbrev Inv-loop : tie.InvT-loop
 Inv-loop file rows p₀ p =

@@ -1,4 +1,4 @@
--- `loader::actions` meets its contract: each turn takes what belongs to an action, and the next one where it has no fault.
+-- `skimming::actions` meets its contract: each turn takes what belongs to an action, and the next one where it has no fault.
 -- Assumes nothing.
 use mathlib.Core.Path.{_≡_, refl, ap, _∙_}
 use mathlib.Core.List.{List, []}
@@ -20,11 +20,11 @@ use Rattle.advancing.specs.Steps.{afterAction}
 use Rattle.advancing.proofs.Judged.{goes-on as faultless, stops, went-on}
 use Rattle.standing.specs.Reads.{Safe}
 use Rattle.standing.proofs.Arms.{Answers, action-place}
-use Rattle.loader.specs.Halfway.{Halfway}
-use Rattle.loader.proofs.Pass.{goes-on}
-use Rattle.loader.proofs.Runs.{action-taken}
-use Rattle.loader.proofs.actions.Statement.{statement}
-use Rattle.loader.proofs.actions.Tie as tie
+use Rattle.standing.specs.Halfway.{Halfway}
+use Rattle.standing.proofs.Pass.{goes-on}
+use Rattle.standing.proofs.Runs.{action-taken}
+use Rattle.skimming.proofs.actions.Statement.{statement}
+use Rattle.skimming.proofs.actions.Tie as tie
 
 abbrev Inv-loop : tie.InvT-loop
 Inv-loop file acts₀ rows p₀ acts p =
