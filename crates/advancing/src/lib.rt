@@ -1,6 +1,7 @@
 // One record judged: its fault, or where the reading stands after it.
 ghost use mathlib.Core.Path.{_≡_};
 ghost use Prim.Native.Nat.{ℕ, _≤_, _<_};
+ghost use Rattle.tables.specs.Tables.{seedOf};
 ghost use Rattle.tables.specs.Rows.{countColumn};
 ghost use Rattle.judging.specs.Faults.{actionFault, conditionFault, taskFault, seedFault, timesFault, presentFault, crewFault};
 ghost use Rattle.advancing.specs.Steps.{afterAction, afterCondition, afterTask, afterSeed, afterTimes, afterPresent, afterCrew, unlessFault, outBy};
@@ -29,6 +30,13 @@ pub enum Step {
     On(Progress),
     Refused { number: u8, place: usize },
     Done(Progress),
+}
+
+// A seed, from its four bytes.
+pub fn seed_of(a: u8, b: u8, c: u8, d: u8) -> u64
+    ensures { λ r. ⌜ r ≡ seedOf a b c d ⌝ }
+{
+    (((a as u64) * 256 + (b as u64)) * 256 + (c as u64)) * 256 + (d as u64)
 }
 
 // Judges a seed: its fault, or where the reading stands after it.

@@ -18,8 +18,9 @@ use Rattle.spelling.specs.Spelling.{spelledRecord, spelled}
 use Rattle.spelling.specs.Lists.{Lists, listsOf, fileOf}
 use Rattle.spelling.proofs.ReadBack.{all-retold}
 use Rattle.repeats.specs.Repeats.{Small}
-use Rattle.drafting.specs.Drafts.{Drafted, RepeatedIn}
-use Rattle.drafting.proofs.OneRecord.{verdict-here}
+use Rattle.drafts.specs.Drafts.{Drafted}
+use Rattle.drafting.specs.Judges.{RepeatedIn}
+use Rattle.drafts.proofs.OneRecord.{verdict-here}
 
 sound-small : {d : Draft} → Sound d → Small (d .study .actions)
 sound-small sound i h =

@@ -1,6 +1,3 @@
-pub mod Turns
-pub mod Stops
-pub mod OneRecord
-pub mod LentBytes
+pub mod Refusals
 pub mod Ends
 pub mod Starts

@@ -20,7 +20,7 @@ use Rattle.spelling.specs.Lists.{presentRecord, actionRecords, crewRecords, rec
 use Rattle.spelling.specs.Lent.{conditionsIn, actionsIn, errandsIn, crewsIn, lent}
 use Rattle.spelling.proofs.Rewritten.{spelled-append}
 use Rattle.spelling.proofs.ReadBack.{nothing-retold}
-use Rattle.drafting.specs.Drafts.{Drafted}
+use Rattle.drafts.specs.Drafts.{Drafted}
 
 pub origin-bounds : (counts : List ℕ) → Bounds origin counts
 origin-bounds counts = search arith

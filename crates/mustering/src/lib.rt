@@ -28,18 +28,12 @@ fn enter_tasks(file: &[u8], place: usize, n: usize, vars: &mut [[u8; 3]; 32])
     }
 }
 
-fn seed_of(a: u8, b: u8, c: u8, d: u8) -> u64
-    ensures { λ r. ⌜ r ≡ ((a * 256 + b) * 256 + c) * 256 + d ⌝ }
-{
-    (((a as u64) * 256 + (b as u64)) * 256 + (c as u64)) * 256 + (d as u64)
-}
-
 // The seed of the record at a place.
 fn seed_at(file: &[u8], at: usize) -> u64
     requires { ⌜ at + 5 ≤ length (now file) ⌝ }
     ensures { λ r. ⌜ r ≡ seedAt (now (file .entry)) at ⌝ }
 {
-    seed_of(file[at + 1], file[at + 2], file[at + 3], file[at + 4])
+    advancing::seed_of(file[at + 1], file[at + 2], file[at + 3], file[at + 4])
 }
 
 fn wide(x: u16) -> usize

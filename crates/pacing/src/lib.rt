@@ -6,19 +6,12 @@ ghost use lib.Dec.{ltb};
 ghost use Rattle.study.specs.Reading.{Draft, verdictAt, mayFollow};
 ghost use Rattle.records.specs.Records.{recordAt};
 ghost use Rattle.records.specs.declared.Found.the-variants.{There};
-ghost use Rattle.tables.specs.Tables.{seedOf};
 ghost use Rattle.tables.specs.Rows.{countColumn, seenAll};
 ghost use Rattle.standing.specs.Reads.{Safe, Stands, Further, Meets};
 use advancing::Progress;
 use advancing::Step;
 use judging::order;
 use records::Found;
-
-fn seed_of(a: u8, b: u8, c: u8, d: u8) -> u64
-    ensures { λ r. ⌜ r ≡ seedOf a b c d ⌝ }
-{
-    (((a as u64) * 256 + (b as u64)) * 256 + (c as u64)) * 256 + (d as u64)
-}
 
 // Takes a record that is there and may come. The place after it is the kind's own, so that the next record is read without
 // waiting for this one's length.
@@ -61,7 +54,7 @@ fn take(
         ),
         5 => entering::on_seed(
             p,
-            seed_of(
+            advancing::seed_of(
                 file[start],
                 file[start + 1],
                 file[start + 2],

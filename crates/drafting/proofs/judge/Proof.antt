@@ -9,9 +9,9 @@ use Rattle.tables.specs.Rows.{countColumn}
 use Rattle.standing.specs.Reads.{origin}
 use Rattle.spelling.specs.Lists.{Lists, presentRecord, fileOf}
 use Rattle.spelling.specs.Lent.{conditionsIn, actionsIn, errandsIn, crewsIn, lent}
-use Rattle.drafting.specs.Drafts.{BehindVariables, Drafted}
-use Rattle.drafting.proofs.Turns.{not-far, others-follow}
-use Rattle.drafting.proofs.Stops.{stopped-judged}
+use Rattle.drafts.specs.Drafts.{BehindVariables, Drafted}
+use Rattle.drafts.proofs.Turns.{not-far, others-follow}
+use Rattle.drafting.proofs.Refusals.{stopped-judged}
 use Rattle.drafting.proofs.Starts.{behindVariables, starts, actions-start}
 use Rattle.drafting.proofs.judge.Statement.{statement}
 use Rattle.drafting.proofs.judge.Tie as tie

@@ -7,7 +7,7 @@ use borrow.Author.Tests.{ne-eqb}
 use Rattle.bits.specs.Bits.{LowestClear}
 use Rattle.study.specs.Reading.{end, mayFollow}
 use Rattle.standing.proofs.Unused.{unused-is, none-is-unused}
-use Rattle.drafting.proofs.OneRecord.{out-of-turn}
+use Rattle.drafts.proofs.OneRecord.{out-of-turn}
 use Rattle.drafting.proofs.Ends.{loads, unused-there, repeats-there}
 use Rattle.drafting.proofs.judge_end.Statement.{statement}
 use Rattle.drafting.proofs.judge_end.Tie as tie

@@ -10,8 +10,8 @@ use Rattle.judging.proofs.Bounds.{present-bounds}
 use Rattle.advancing.specs.Steps.{afterPresent}
 use Rattle.standing.specs.Reads.{origin}
 use Rattle.standing.proofs.Kept.{present-kept}
-use Rattle.drafting.proofs.Stops.{on-keeps, on-leads}
-use Rattle.drafting.proofs.OneRecord.{keeps-unless, present-leads}
+use Rattle.drafts.proofs.Stops.{on-keeps, on-leads}
+use Rattle.drafts.proofs.OneRecord.{keeps-unless, present-leads}
 use Rattle.drafting.proofs.Starts.{origin-bounds}
 use Rattle.drafting.proofs.judge_present.Statement.{statement}
 use Rattle.drafting.proofs.judge_present.Tie as tie

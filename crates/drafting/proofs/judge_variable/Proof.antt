@@ -10,8 +10,8 @@ use Rattle.tables.specs.Rows.{countColumn}
 use Rattle.judging.specs.Faults.{variableFault}
 use Rattle.advancing.specs.Steps.{afterVariable}
 use Rattle.standing.proofs.Kept.{variable-kept}
-use Rattle.drafting.proofs.Turns.{variable-early, not-far}
-use Rattle.drafting.proofs.OneRecord.{keeps-unless, variable-leads}
+use Rattle.drafts.proofs.Turns.{variable-early, not-far}
+use Rattle.drafts.proofs.OneRecord.{keeps-unless, variable-leads}
 use Rattle.drafting.proofs.judge_variable.Statement.{statement}
 use Rattle.drafting.proofs.judge_variable.Tie as tie
 

@@ -11,11 +11,11 @@ use mathlib.Core.Path.{_≡_}
 use Rattle.study.specs.Reading.{Record, variable}
 use Rattle.tables.specs.Rows.{countColumn}
 use Rattle.standing.specs.Reads.{Bounds}
-use Rattle.drafting.specs.Drafts.{VariablesGoOn, Drafted}
-use Rattle.drafting.proofs.Turns.{first-variable, next-variable}
-use Rattle.drafting.proofs.Stops.{on-keeps, on-leads, refused-keeps, stopped-keeps, stopped-leads}
-use Rattle.drafting.proofs.OneRecord.{no-variable}
-use Rattle.drafting.proofs.LentBytes.{variable-lent, no-variable-lent}
+use Rattle.drafts.specs.Drafts.{VariablesGoOn, Drafted}
+use Rattle.drafts.proofs.Turns.{first-variable, next-variable}
+use Rattle.drafts.proofs.Stops.{on-keeps, on-leads, refused-keeps, stopped-keeps, stopped-leads}
+use Rattle.drafts.proofs.OneRecord.{no-variable}
+use Rattle.drafts.proofs.LentBytes.{variable-lent, no-variable-lent}
 use Rattle.drafting.proofs.judge_variables.Statement.{statement}
 use Rattle.drafting.proofs.judge_variables.Tie as tie
 

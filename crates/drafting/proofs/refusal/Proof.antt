@@ -10,7 +10,7 @@ use borrow.Author.Needs.{needs}
 use Rattle.advancing.specs.declared.Step.{Step}
 use Rattle.advancing.specs.declared.Step.the-variants.{On, Refused, Done}
 use Rattle.advancing.proofs.Step.{the-type}
-use Rattle.drafting.specs.Drafts.{refusalOf}
+use Rattle.drafting.specs.Judges.{refusalOf}
 use Rattle.drafting.specs.declared.Judged.the-variants as Said-of
 use Rattle.drafting.proofs.refusal.Statement.{statement}
 use Rattle.drafting.proofs.refusal.Tie as tie

@@ -1,0 +1,4 @@
+pub mod Turns
+pub mod Stops
+pub mod OneRecord
+pub mod LentBytes
