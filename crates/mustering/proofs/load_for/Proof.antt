@@ -12,7 +12,7 @@ use Rattle.study.specs.Study.{Roster, crewAt, studyOf}
 use Rattle.tables.specs.Tables.{HoldsRoster, HoldsCrew}
 use Rattle.tables.specs.Rows.{field, seenAll}
 use Rattle.tables.proofs.Columns.{column-length}
-use Rattle.mustering.specs.Mustering.{notRead}
+use Rattle.tasking.specs.NotRead.{notRead}
 use Rattle.mustering.proofs.Crews.{crew-missing, crew-there, still-refused, crew-held}
 use Rattle.mustering.proofs.load_for.Statement.{statement}
 use Rattle.mustering.proofs.load_for.Tie as tie

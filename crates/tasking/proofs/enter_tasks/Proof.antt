@@ -1,4 +1,4 @@
--- `mustering::enter_tasks` meets its contract: each turn enters one task.
+-- `tasking::enter_tasks` meets its contract: each turn enters one task.
 -- Assumes nothing.
 use mathlib.Core.Path.{_≡_, refl, ap, _∙_}
 use Prim.Native.Nat.{ℕ, _+_, _*_, _-_, _≤_}
@@ -9,9 +9,9 @@ use borrow.Author.Needs.{needs}
 use Rattle.tables.specs.Rows.{field, countColumn, startColumn, goalColumn}
 use Rattle.tables.proofs.Columns.{column-length}
 use Rattle.entering.proofs.Rows.{task-stored}
-use Rattle.mustering.proofs.Tasks.{Partly, none-entered, one-entered, all-entered}
-use Rattle.mustering.proofs.enter_tasks.Statement.{statement}
-use Rattle.mustering.proofs.enter_tasks.Tie as tie
+use Rattle.tasking.proofs.Tasks.{Partly, none-entered, one-entered, all-entered}
+use Rattle.tasking.proofs.enter_tasks.Statement.{statement}
+use Rattle.tasking.proofs.enter_tasks.Tie as tie
 
 abbrev Inv-loop : tie.InvT-loop
 Inv-loop file place n vars₀ at₀ v₀ vars at v =

@@ -1,10 +1,10 @@
--- `mustering::unread` meets its contract: the refusal is told as it is.
+-- `tasking::unread` meets its contract: the refusal is told as it is.
 -- Assumes nothing.
 use mathlib.Core.Path.{ap, sym}
 use borrow.Author.Needs.{needs}
-use Rattle.mustering.specs.Mustering.{notRead}
-use Rattle.mustering.proofs.unread.Statement.{statement}
-use Rattle.mustering.proofs.unread.Tie as tie
+use Rattle.tasking.specs.NotRead.{notRead}
+use Rattle.tasking.proofs.unread.Statement.{statement}
+use Rattle.tasking.proofs.unread.Tie as tie
 
 enum-told : tie.Need-enum-told
 enum-told c = search needs
