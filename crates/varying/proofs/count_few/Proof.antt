@@ -3,9 +3,9 @@
 use Prim.Native.Nat.{ℕ}
 use native.Mathlib.Omega.{arith}
 use lib.ListN.{length-replicate}
-use Rattle.varying.proofs.Once.{total-within}
-use Rattle.varying.proofs.Alike.{as-many-plans, actions-kept}
-use Rattle.varying.proofs.Writing.{figures-apart}
+use Rattle.keeping.proofs.Once.{total-within}
+use Rattle.keeping.proofs.Alike.{as-many-plans, actions-kept}
+use Rattle.keeping.proofs.Writing.{figures-apart}
 use borrow.Author.Needs.{needs}
 use Rattle.varying.proofs.count_few.Statement.{statement}
 use Rattle.varying.proofs.count_few.Tie as tie

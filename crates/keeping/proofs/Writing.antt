@@ -20,7 +20,7 @@ use Rattle.varied.proofs.Alike.{AllPlans, plan-then-plans, barred-comes}
 use Rattle.varied.proofs.Settled.{come-to-some}
 use Rattle.varied.proofs.Told.{barred-report, plans-report, plans-report-length}
 use Rattle.heading.proofs.Writing.{writes-all, writes-none}
-use Rattle.varying.specs.Seeds.{KeptAll, Reported}
+use Rattle.keeping.specs.Seeds.{KeptAll, Reported}
 
 -- ---- all give plans
 

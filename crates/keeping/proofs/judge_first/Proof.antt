@@ -1,13 +1,13 @@
--- `varying::judge_first` meets its contract: fewer taken than are on walks is refusal 12 of each seed, else each gives a plan.
+-- `keeping::judge_first` meets its contract: fewer taken than are on walks is refusal 12 of each seed, else each gives a plan.
 -- Assumes nothing.
 use mathlib.Core.Path.{refl}
 use native.Mathlib.Omega.{arith}
 use Rattle.planning.specs.Refusals.{withRing}
-use Rattle.varying.proofs.Alike.{plan-long, taken-few, ring-comes, plan-comes}
-use Rattle.varying.proofs.Writing.{reports-no-room}
+use Rattle.keeping.proofs.Alike.{plan-long, taken-few, ring-comes, plan-comes}
+use Rattle.keeping.proofs.Writing.{reports-no-room}
 use borrow.Author.Needs.{needs}
-use Rattle.varying.proofs.judge_first.Statement.{statement}
-use Rattle.varying.proofs.judge_first.Tie as tie
+use Rattle.keeping.proofs.judge_first.Statement.{statement}
+use Rattle.keeping.proofs.judge_first.Tie as tie
 
 all-refused-requires : tie.Need-all-refused-requires
 all-refused-requires c κs = search needs

@@ -24,7 +24,7 @@ use Rattle.varied.proofs.Alike.{AllPlans, plan-then-plans}
 use Rattle.varied.proofs.Told.{plans-among-length, plans-among-more, all-plans-more}
 use Rattle.tallying.specs.Kept.{planAt, Kept, KeptBelow}
 use Rattle.tallying.proofs.Keeping.{none-kept, kept-below}
-use Rattle.varying.specs.Seeds.{KeptAll}
+use Rattle.keeping.specs.Seeds.{KeptAll}
 
 -- what stands in the room from 256 on is as long as a plan
 pub plan-long : {total : ℕ} → total ≤ 256 → (room : List ℕ) → length room ≡ 512 → length (take total (drop 256 room)) ≡ total

@@ -1,12 +1,12 @@
--- `varying::keep` meets its contract: what was taken stands in the room from 256 on.
+-- `keeping::keep` meets its contract: what was taken stands in the room from 256 on.
 -- Assumes nothing.
 use Prim.Native.Nat.{_-_}
 use native.Mathlib.Omega.{arith}
 use lib.ListN.{length, drop}
 use lib.Seq.{take-take}
 use borrow.Author.Needs.{needs}
-use Rattle.varying.proofs.keep.Statement.{statement}
-use Rattle.varying.proofs.keep.Tie as tie
+use Rattle.keeping.proofs.keep.Statement.{statement}
+use Rattle.keeping.proofs.keep.Tie as tie
 
 sub-keep : tie.Need-sub-keep
 sub-keep c = search needs

@@ -20,9 +20,9 @@ use Rattle.varied.specs.Report.{Reports}
 use Rattle.varied.specs.Figures.{plansAmong, reportOf}
 use Rattle.varied.proofs.Alike.{AllPlans}
 use Rattle.tallying.specs.Kept.{Kept}
-use Rattle.varying.specs.declared.Extent.{Extent}
-use Rattle.varying.specs.declared.FirstSeed.{FirstSeed}
-use Rattle.varying.specs.declared.FirstSeed.the-variants.{Settles, Plans}
+use Rattle.keeping.specs.declared.Extent.{Extent}
+use Rattle.keeping.specs.declared.FirstSeed.{FirstSeed}
+use Rattle.keeping.specs.declared.FirstSeed.the-variants.{Settles, Plans}
 
 -- the seeds are in range, and one to 64
 pub record InRange (first seeds : ℕ) : Type 0 where
