@@ -1,9 +1,4 @@
-pub mod Asking
-pub mod Befores
-pub mod Circles
 pub mod Lowest
 pub mod LowestBefore
 pub mod LowestSetter
 pub mod Paths
-pub mod Rows
-pub mod Rules

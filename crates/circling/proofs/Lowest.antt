@@ -8,7 +8,7 @@ use native.Mathlib.Omega.{arith}
 use native.Mathlib.Decide.{ℕ-discrete}
 use Rattle.study.specs.Study.{Study}
 use Rattle.explained.specs.Rings.{Stuck}
-use Rattle.circling.specs.Stranded.{LeftAre}
+use Rattle.ringing.specs.Stranded.{LeftAre}
 use Rattle.circling.specs.Lowest.{LowerOf, LowestBelow}
 
 module _ {t : Study} where

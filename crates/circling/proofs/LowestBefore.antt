@@ -21,9 +21,9 @@ use Rattle.wanting.proofs.Counting.{wants-told, wants-tells}
 use Rattle.tracing.proofs.Ranges.{pre-small}
 use Rattle.explained.specs.Rings.{Stuck, WaitsOn}
 use Rattle.explained.specs.Wanters.{Sets}
-use Rattle.circling.specs.Stranded.{Stranded}
+use Rattle.ringing.specs.Stranded.{Stranded}
 use Rattle.circling.specs.Lowest.{LowerOf, LowestBelow}
-use Rattle.circling.proofs.Befores.{stuck-on-walk, stuck-there, stuck-small, sets-no-start, left-is-set, set-by-named}
+use Rattle.ringing.proofs.Befores.{stuck-on-walk, stuck-there, stuck-small, sets-no-start, left-is-set, set-by-named}
 use Rattle.circling.proofs.Lowest.{lowest-of-none, lowest-of-one, lowest-of-both, lowest-in-other-words}
 
 -- i wants what j leaves; i sets what j leaves; i sets what j wants

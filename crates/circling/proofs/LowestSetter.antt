@@ -16,9 +16,9 @@ use Rattle.wanting.specs.Wanting.{StandAt}
 use Rattle.wanting.proofs.Conditions.{Here, wants-at, stands-here, condition-there}
 use Rattle.explained.specs.Rings.{Stuck}
 use Rattle.explained.specs.Wanters.{Sets}
-use Rattle.circling.specs.Stranded.{Stranded, Opened}
+use Rattle.ringing.specs.Stranded.{Stranded, Opened}
 use Rattle.circling.specs.Lowest.{LowerOf, LowestBelow}
-use Rattle.circling.proofs.Befores.{stuck-on-walk, sets-no-start, value-is-set, set-by-named}
+use Rattle.ringing.proofs.Befores.{stuck-on-walk, sets-no-start, value-is-set, set-by-named}
 use Rattle.circling.proofs.Lowest.{lowest-of-none, lowest-of-one, lowest-of-both, lowest-in-other-words}
 
 -- action i sets what condition k of action j wants

@@ -15,9 +15,9 @@ use Rattle.lawful.specs.Lawful.{Lawful}
 use Rattle.orders.specs.Orders.{In}
 use Rattle.orders.proofs.Lists.{entry-in, in-has-place, in-append-left, in-append-right, in-append-cases, distinct-append, distinct-below}
 use Rattle.explained.specs.Rings.{Stuck, WaitsOn}
-use Rattle.circling.specs.Path.{Pathed, Next, Closed}
-use Rattle.circling.specs.declared.Circle.{Circle}
-use Rattle.circling.proofs.Befores.{stuck-small}
+use Rattle.ringing.specs.Path.{Pathed, Next, Closed}
+use Rattle.ringing.specs.declared.Circle.{Circle}
+use Rattle.ringing.proofs.Befores.{stuck-small}
 
 module _ {t : Study} {seen path : List ℕ} {k : ℕ} (pathed : Pathed t seen path k) (long : length path ≡ 256) where
   on-path : (m : ℕ) → m < k → In (getD path m 0) (take k path)

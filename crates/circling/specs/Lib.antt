@@ -1,3 +1,1 @@
-pub mod Stranded
 pub mod Lowest
-pub mod Path

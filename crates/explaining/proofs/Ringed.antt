@@ -17,7 +17,7 @@ use Rattle.stages.specs.Whole.{KnownIn}
 use Rattle.stages.proofs.Stages.{held-wishes}
 use Rattle.explained.specs.Wanters.{Sets, Noted}
 use Rattle.stranding.specs.Left.{UntakenIn}
-use Rattle.circling.specs.Stranded.{LeftAre, Stranded, Rowed}
+use Rattle.ringing.specs.Stranded.{LeftAre, Stranded, Rowed}
 use Rattle.explaining.proofs.Known.{known-start, known-posts}
 
 module _

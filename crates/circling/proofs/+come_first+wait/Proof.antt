@@ -2,9 +2,9 @@
 -- Assumes nothing.
 use native.Mathlib.Omega.{arith}
 use lib.ListN.{length-set}
-use Rattle.circling.proofs.Befores.{stuck-there, stuck-small}
+use Rattle.ringing.proofs.Befores.{stuck-there, stuck-small}
 use Rattle.circling.proofs.Paths.{closes-here, room-left, goes-on, next-after, closes-later}
-use Rattle.circling.proofs.Rows.{opened-row}
+use Rattle.ringing.proofs.Rows.{opened-row}
 use Prim.Native.Nat.{ℕ, _+_, _-_, _*_, _<_}
 use borrow.Fn.Kinds.{In}
 use borrow.Fn.PlainCycle.{Measures, is, falls, and}

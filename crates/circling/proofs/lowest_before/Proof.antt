@@ -9,7 +9,7 @@ use Rattle.study.specs.Study.{Study}
 use Rattle.tables.specs.Rows.{startColumn}
 use Rattle.walks.specs.Walks.{varOf, preOf}
 use Rattle.explained.specs.Rings.{Stuck, WaitsOn}
-use Rattle.circling.specs.Stranded.{Stranded, Opened}
+use Rattle.ringing.specs.Stranded.{Stranded, Opened}
 use Rattle.circling.specs.Lowest.{LowestBelow}
 use Rattle.circling.proofs.LowestBefore.{SetsLeft, var-fits, pre-fits, lowest-wanter, none-sets-left, lowest-sets-left, waits-on}
 use borrow.Author.Needs.{needs}

@@ -8,11 +8,11 @@ use lib.ListN.{getD, replicate, getD-replicate}
 use Rattle.study.specs.Study.{Study}
 use Rattle.tables.specs.Rows.{startColumn}
 use Rattle.explained.specs.Rings.{Stuck}
-use Rattle.circling.specs.Stranded.{Stranded, Rowed}
-use Rattle.circling.specs.Path.{Closed, circleFacts}
-use Rattle.circling.proofs.Befores.{stuck-small, least-left-is-lowest}
+use Rattle.ringing.specs.Stranded.{Stranded, Rowed}
+use Rattle.ringing.specs.Path.{Closed, circleFacts}
+use Rattle.ringing.proofs.Befores.{stuck-small, least-left-is-lowest}
 use Rattle.circling.proofs.Paths.{none-on-path}
-use Rattle.circling.proofs.Circles.{closed-are-actions, circle-told}
+use Rattle.ringing.proofs.Circles.{closed-are-actions, circle-told}
 use borrow.Author.Needs.{needs}
 use Rattle.circling.proofs.ring.Statement.{statement}
 use Rattle.circling.proofs.ring.Tie as tie

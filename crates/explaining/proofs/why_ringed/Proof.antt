@@ -13,7 +13,7 @@ use Rattle.planning.proofs.Bars.{without-bars-walks}
 use Rattle.stages.specs.Whole.{KnownIn}
 use Rattle.stages.proofs.Stages.{given-moves, given-starts, given-goals, given-traced}
 use Rattle.wanters.proofs.Fresh.{fresh-in-fours, fresh-all-empty}
-use Rattle.circling.specs.Stranded.{Stranded}
+use Rattle.ringing.specs.Stranded.{Stranded}
 use Rattle.explaining.proofs.Known.{given}
 use Rattle.explaining.proofs.Ringed.{known-wishes, known-rowed, known-untaken, known-stranded}
 use Rattle.explaining.proofs.why_ringed.Statement.{statement}

@@ -13,7 +13,7 @@ use Rattle.walks.specs.Walks.{varOf, preOf, postOf, conditionsOf}
 use Rattle.wanting.specs.Wanting.{wants}
 use Rattle.explained.specs.Facts.{rowOf}
 use Rattle.explained.specs.Rings.{orderFact}
-use Rattle.circling.specs.Stranded.{Opened}
+use Rattle.ringing.specs.Stranded.{Opened}
 
 module _ {file : List ℕ} {one other : Act} {t : Study} {i j : ℕ} (is-i : Opened file one t i) (is-j : Opened file other t j) where
   sets-left : one .var ≡ other .var → one .post ≡ other .pre → (eqb (varOf t i) (varOf t j) && eqb (postOf t i) (preOf t j)) ≡ true

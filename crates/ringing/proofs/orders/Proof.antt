@@ -1,10 +1,10 @@
--- `circling::orders` meets its contract: each turn tells one order and keeps `Telling`.
+-- `ringing::orders` meets its contract: each turn tells one order and keeps `Telling`.
 -- Assumes nothing.
 use Prim.Native.Nat.{_-_}
 use native.Mathlib.Omega.{arith}
-use Rattle.circling.proofs.Circles.{Telling, begins, goes-on, ends}
-use Rattle.circling.proofs.orders.Statement.{statement}
-use Rattle.circling.proofs.orders.Tie as tie
+use Rattle.ringing.proofs.Circles.{Telling, begins, goes-on, ends}
+use Rattle.ringing.proofs.orders.Statement.{statement}
+use Rattle.ringing.proofs.orders.Tie as tie
 
 abbrev Inv-loop : tie.InvT-loop
 Inv-loop file acts path facts₀ from to n₀ k₀ facts n k = Telling file acts path from to facts n k

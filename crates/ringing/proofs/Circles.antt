@@ -12,10 +12,10 @@ use Rattle.orders.proofs.Lists.{entry-in}
 use Rattle.tables.specs.Rows.{Row}
 use Rattle.explained.specs.Facts.{Fact, rowOf, rowsOf}
 use Rattle.explained.specs.Rings.{Stuck, WaitsOn, WaitAlong, orderFact, orderFacts, Circled}
-use Rattle.circling.specs.Stranded.{Rowed}
-use Rattle.circling.specs.Path.{Closed, AreActions, circleFacts}
-use Rattle.circling.proofs.Befores.{stuck-there}
-use Rattle.circling.specs.declared.Circle.{Circle}
+use Rattle.ringing.specs.Stranded.{Rowed}
+use Rattle.ringing.specs.Path.{Closed, AreActions, circleFacts}
+use Rattle.ringing.proofs.Befores.{stuck-there}
+use Rattle.ringing.specs.declared.Circle.{Circle}
 
 -- ---- the orders
 

@@ -7,7 +7,7 @@ use lib.ListN.{length}
 use Rattle.study.specs.Study.{Study}
 use Rattle.tables.specs.Rows.{Row, OpensAction}
 use Rattle.tables.specs.declared.Act.{Act}
-use Rattle.circling.specs.Stranded.{Opened, Rowed}
+use Rattle.ringing.specs.Stranded.{Opened, Rowed}
 
 pub opened-row :
     {file : List ℕ} {acts : List Row} {t : Study} {act : Act} {j : ℕ}

@@ -1,4 +1,4 @@
--- `circling::wants` meets its contract: none of the conditions passed is the one.
+-- `ringing::wants` meets its contract: none of the conditions passed is the one.
 -- Assumes nothing.
 use mathlib.Core.Path.{sym}
 use mathlib.Core.Logic.{inl, inr}
@@ -8,9 +8,9 @@ use borrow.Author.Needs.{needs}
 use borrow.Author.Tests.{eqb-true, eqb-false}
 use lib.ListN.{length}
 use Rattle.walks.specs.Walks.{conditionsOf}
-use Rattle.circling.proofs.Asking.{Asking, begins, room, goes-on, finds, ends}
-use Rattle.circling.proofs.wants.Statement.{statement}
-use Rattle.circling.proofs.wants.Tie as tie
+use Rattle.ringing.proofs.Asking.{Asking, begins, room, goes-on, finds, ends}
+use Rattle.ringing.proofs.wants.Statement.{statement}
+use Rattle.ringing.proofs.wants.Tie as tie
 
 abbrev Inv-loop : tie.InvT-loop
 Inv-loop file v q many at₀ k₀ at k = Asking file at₀ many v q at k

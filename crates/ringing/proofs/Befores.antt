@@ -22,7 +22,7 @@ use Rattle.tracing.proofs.Setters.{names-usable}
 use Rattle.explained.specs.Rings.{Stuck}
 use Rattle.explained.specs.Wanters.{Sets}
 use Rattle.explained.proofs.Rings.{stuck-on}
-use Rattle.circling.specs.Stranded.{Stranded}
+use Rattle.ringing.specs.Stranded.{Stranded}
 
 module _ {t : Study} where
   pub stuck-on-walk : {i : ℕ} → Stuck t i → OnAWalk t i

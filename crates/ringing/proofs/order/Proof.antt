@@ -1,4 +1,4 @@
--- `circling::order` meets its contract: by the first rule that applies.
+-- `ringing::order` meets its contract: by the first rule that applies.
 -- Assumes nothing.
 use mathlib.Core.Path.{_≡_, sym, _∙_}
 use mathlib.Core.Logic.{inl, inr}
@@ -6,12 +6,12 @@ use Prim.Native.Nat.{_<_}
 use lib.ListN.{length}
 use borrow.Author.Tests.{eqb-true, eqb-false}
 use Rattle.study.specs.Study.{Study}
-use Rattle.circling.specs.Stranded.{Opened, Rowed}
-use Rattle.circling.proofs.Rows.{opened-row}
-use Rattle.circling.proofs.Rules.{by-next, by-sets, by-leaves}
+use Rattle.ringing.specs.Stranded.{Opened, Rowed}
+use Rattle.ringing.proofs.Rows.{opened-row}
+use Rattle.ringing.proofs.Rules.{by-next, by-sets, by-leaves}
 use borrow.Author.Needs.{needs}
-use Rattle.circling.proofs.order.Statement.{statement}
-use Rattle.circling.proofs.order.Tie as tie
+use Rattle.ringing.proofs.order.Statement.{statement}
+use Rattle.ringing.proofs.order.Tie as tie
 
 -- the two actions, opened
 abbrev entry-of : tie.After-action-at2 → tie.Start

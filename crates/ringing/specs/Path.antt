@@ -9,7 +9,7 @@ use Rattle.study.specs.Study.{Study}
 use Rattle.orders.specs.Orders.{In, Distinct}
 use Rattle.explained.specs.Rings.{Stuck, WaitsOn, orderFacts}
 use Rattle.explained.specs.Facts.{Fact}
-use Rattle.circling.specs.declared.Circle.{Circle}
+use Rattle.ringing.specs.declared.Circle.{Circle}
 
 -- the first k of the path: each once, on or after a ring, waiting on the next; and for each action 1 more than its place on it, or 0
 pub record Pathed (t : Study) (seen path : List ℕ) (k : ℕ) : Type 0 where

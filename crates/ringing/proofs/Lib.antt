@@ -1,0 +1,5 @@
+pub mod Asking
+pub mod Befores
+pub mod Circles
+pub mod Rows
+pub mod Rules

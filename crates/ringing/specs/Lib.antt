@@ -1,0 +1,2 @@
+pub mod Stranded
+pub mod Path
