@@ -11,9 +11,9 @@ use Rattle.spelling.specs.Spelling.{spelledRecord, spelled}
 use Rattle.spelling.specs.Lists.{presentRecord, actionRecords, crewRecords, recordsOf, fileOf}
 use Rattle.spelling.specs.Lent.{errandsIn, crewsIn, lent}
 use Rattle.spelling.proofs.Rewritten.{spelled-append}
-use Rattle.writing.specs.Put.{Fits, Put}
-use Rattle.writing.proofs.Putting.{Starts, in-front, Left, all-left, first-fits, first-put, sets-front}
-use Rattle.writing.proofs.Entries.{variablesFrom, actionsFrom, unless-spelled, unlessBytes}
+use Rattle.putting.specs.Put.{Fits, Put}
+use Rattle.putting.proofs.Putting.{Starts, in-front, Left, all-left, first-fits, first-put, sets-front}
+use Rattle.putting.proofs.Entries.{variablesFrom, actionsFrom, unless-spelled, unlessBytes}
 
 abbrev crewBytes : List ℕ → List ℕ → List ℕ
 crewBytes crews tasks = spelled (crewRecords (crewsIn crews (errandsIn tasks)))

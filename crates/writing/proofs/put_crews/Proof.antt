@@ -9,11 +9,11 @@ use lib.Seq.{length-take-le}
 use Rattle.spelling.specs.Spelling.{spelled}
 use Rattle.spelling.specs.Lists.{crewRecords}
 use Rattle.spelling.specs.Lent.{errandsIn, crewsIn, tasksAnnounced}
-use Rattle.writing.specs.Put.{Fits, Put}
+use Rattle.putting.specs.Put.{Fits, Put}
 use borrow.Author.Needs.{needs}
 use borrow.Author.Tests.{lt-ltb}
-use Rattle.writing.proofs.Putting.{Left, in-front, all-left, first-fits, first-put, none-left}
-use Rattle.writing.proofs.Entries.{tasksFrom, crewsFrom, seedBytes, no-crew-left, tasks-announced-first, crew-first}
+use Rattle.putting.proofs.Putting.{Left, in-front, all-left, first-fits, first-put, none-left}
+use Rattle.putting.proofs.Entries.{tasksFrom, crewsFrom, seedBytes, no-crew-left, tasks-announced-first, crew-first}
 use Rattle.writing.proofs.put_crews.Statement.{statement}
 use Rattle.writing.proofs.put_crews.Tie as tie
 

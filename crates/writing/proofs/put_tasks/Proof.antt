@@ -7,8 +7,8 @@ use lib.ListN.{length}
 use Rattle.spelling.specs.Spelling.{spelled}
 use Rattle.spelling.specs.Lent.{errandsIn}
 use borrow.Author.Needs.{needs}
-use Rattle.writing.proofs.Putting.{Left, all-left, first-fits, first-put, none-left}
-use Rattle.writing.proofs.Entries.{tasksFrom, nothing-left, task-first}
+use Rattle.putting.proofs.Putting.{Left, all-left, first-fits, first-put, none-left}
+use Rattle.putting.proofs.Entries.{tasksFrom, nothing-left, task-first}
 use Rattle.writing.proofs.put_tasks.Statement.{statement}
 use Rattle.writing.proofs.put_tasks.Tie as tie
 

@@ -5,8 +5,8 @@ use native.Mathlib.Omega.{arith}
 use lib.ListN.{length}
 use Rattle.spelling.specs.Spelling.{spelled}
 use borrow.Author.Needs.{needs}
-use Rattle.writing.proofs.Putting.{Left, all-left, first-fits, first-put, none-left}
-use Rattle.writing.proofs.Entries.{variablesFrom, nothing-left, variable-first}
+use Rattle.putting.proofs.Putting.{Left, all-left, first-fits, first-put, none-left}
+use Rattle.putting.proofs.Entries.{variablesFrom, nothing-left, variable-first}
 use Rattle.writing.proofs.put_variables.Statement.{statement}
 use Rattle.writing.proofs.put_variables.Tie as tie
 

@@ -1,11 +1,11 @@
--- `writing::put_unless` meets its contract: nothing is put, or a run of two.
+-- `putting::put_unless` meets its contract: nothing is put, or a run of two.
 -- Assumes nothing.
 use native.Mathlib.Omega.{arith}
 use mathlib.Core.Path.{refl}
 use borrow.Author.Tests.{eq-eqb, ne-eqb}
 use borrow.Author.Needs.{needs}
-use Rattle.writing.proofs.put_unless.Statement.{statement}
-use Rattle.writing.proofs.put_unless.Tie as tie
+use Rattle.putting.proofs.put_unless.Statement.{statement}
+use Rattle.putting.proofs.put_unless.Tie as tie
 
 returns : tie.Need-returns
 returns c = rw (eq-eqb _ _ (c .if1 .taken)) (record { file = refl; place = omega arith })

@@ -1,12 +1,12 @@
--- `writing::put_seed` meets its contract: the six bytes in two runs of three.
+-- `putting::put_seed` meets its contract: the six bytes in two runs of three.
 -- Assumes nothing.
 use native.Mathlib.Omega.{arith}
 use Rattle.spelling.specs.Spelling.{spelledRecord}
 use Rattle.spelling.proofs.OneSpelling.{seed-spelled}
-use Rattle.writing.proofs.Putting.{add-three}
+use Rattle.putting.proofs.Putting.{add-three}
 use borrow.Author.Needs.{needs}
-use Rattle.writing.proofs.put_seed.Statement.{statement}
-use Rattle.writing.proofs.put_seed.Tie as tie
+use Rattle.putting.proofs.put_seed.Statement.{statement}
+use Rattle.putting.proofs.put_seed.Tie as tie
 
 put-three-requires : tie.Need-put-three-requires
 unfolding spelledRecord

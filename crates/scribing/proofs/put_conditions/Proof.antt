@@ -1,4 +1,4 @@
--- `writing::put_conditions` meets its contract: at each turn the bytes from the next condition on are left to put.
+-- `scribing::put_conditions` meets its contract: at each turn the bytes from the next condition on are left to put.
 -- Assumes nothing.
 use mathlib.Core.Path.{_≡_, refl}
 use Prim.Native.Nat.{_-_, _%_, _≤_}
@@ -7,10 +7,10 @@ use lib.ListN.{length}
 use Rattle.spelling.specs.Spelling.{spelled}
 use Rattle.spelling.specs.Lent.{conditionsIn}
 use borrow.Author.Needs.{needs}
-use Rattle.writing.proofs.Putting.{Left, all-left, first-fits, first-put, none-left}
-use Rattle.writing.proofs.Entries.{conditionsFrom, nothing-left, condition-first}
-use Rattle.writing.proofs.put_conditions.Statement.{statement}
-use Rattle.writing.proofs.put_conditions.Tie as tie
+use Rattle.putting.proofs.Putting.{Left, all-left, first-fits, first-put, none-left}
+use Rattle.putting.proofs.Entries.{conditionsFrom, nothing-left, condition-first}
+use Rattle.scribing.proofs.put_conditions.Statement.{statement}
+use Rattle.scribing.proofs.put_conditions.Tie as tie
 
 abbrev Inv-loop : tie.InvT-loop
 Inv-loop conditions begin file₀ at₀ i₀ file at i = (i ≤ length conditions) × ((i % 2 ≡ 0) × Left (conditionsFrom conditions 0) begin file₀ (conditionsFrom conditions i) at file)

@@ -18,7 +18,7 @@ use Rattle.spelling.specs.Lists.{Errand, Team, conditionRecord, taskRecord, tim
 use Rattle.spelling.specs.Lent.{number, conditionsIn, left, actionsIn, announced, errandsIn, untaken, crewsIn, tasksAnnounced}
 use Rattle.spelling.proofs.Rewritten.{spelled-append}
 use Rattle.spelling.proofs.LentBytes.{one-byte, two-bytes, three-bytes, five-bytes, first-conditions, conditions-behind, first-errands, errands-behind}
-use Rattle.writing.proofs.Putting.{Starts}
+use Rattle.putting.proofs.Putting.{Starts}
 
 pub nothing-left : (l : List ℕ) (i : ℕ) → length l ≤ i → drop i l ≡ []
 nothing-left l i h = drop-of-length-le l h

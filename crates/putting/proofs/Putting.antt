@@ -7,7 +7,7 @@ use native.Mathlib.Nat.{zero-add}
 use native.Mathlib.Omega.{arith}
 use lib.ListN.{length, set, drop, length-append}
 use lib.Seq.{sets, length-sets, sets-eq}
-use Rattle.writing.specs.Put.{Fits, Put}
+use Rattle.putting.specs.Put.{Fits, Put}
 
 -- the code's sums, as a run of stores counts
 pub add-two : (n : ℕ) → n + 2 ≡ suc (suc n)

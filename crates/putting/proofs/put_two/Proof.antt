@@ -1,11 +1,11 @@
--- `writing::put_two` meets its contract: its stores are a run of stores.
+-- `putting::put_two` meets its contract: its stores are a run of stores.
 -- Assumes nothing.
 use native.Mathlib.Numerals.{add-one}
 use native.Mathlib.Omega.{arith}
 use lib.ListN.{length-set}
 use borrow.Author.Needs.{needs}
-use Rattle.writing.proofs.put_two.Statement.{statement}
-use Rattle.writing.proofs.put_two.Tie as tie
+use Rattle.putting.proofs.put_two.Statement.{statement}
+use Rattle.putting.proofs.put_two.Tie as tie
 
 slice-write-file : tie.Need-slice-write-file
 slice-write-file c = search needs

@@ -1,12 +1,12 @@
--- `writing::put_four` meets its contract: its stores are a run of stores.
+-- `putting::put_four` meets its contract: its stores are a run of stores.
 -- Assumes nothing.
 use native.Mathlib.Numerals.{add-one}
 use native.Mathlib.Omega.{arith}
 use lib.ListN.{length-set}
 use borrow.Author.Needs.{needs}
-use Rattle.writing.proofs.Putting.{add-two, add-three}
-use Rattle.writing.proofs.put_four.Statement.{statement}
-use Rattle.writing.proofs.put_four.Tie as tie
+use Rattle.putting.proofs.Putting.{add-two, add-three}
+use Rattle.putting.proofs.put_four.Statement.{statement}
+use Rattle.putting.proofs.put_four.Tie as tie
 
 slice-write-file : tie.Need-slice-write-file
 slice-write-file c = search needs

@@ -1,4 +1,4 @@
--- `writing::put_actions` meets its contract: at each turn the bytes from the next action on are left to put, with the conditions that no action has taken yet.
+-- `scribing::put_actions` meets its contract: at each turn the bytes from the next action on are left to put, with the conditions that no action has taken yet.
 -- Assumes nothing.
 use mathlib.Core.Path.{_≡_, refl}
 use mathlib.Core.List.{List, [], _∷_, _++_}
@@ -8,12 +8,12 @@ use lib.ListN.{length, getD, take, drop, length-drop}
 use lib.Seq.{length-take-le}
 use Rattle.study.specs.Study.{always}
 use Rattle.spelling.specs.Lent.{announced}
-use Rattle.writing.specs.Put.{Put}
+use Rattle.putting.specs.Put.{Put}
 use borrow.Author.Needs.{needs}
-use Rattle.writing.proofs.Putting.{Left, in-front, all-left, first-fits, first-put, none-left}
-use Rattle.writing.proofs.Entries.{conditionsFrom, actionsFrom, unlessBytes, no-action-left, announced-first, action-first}
-use Rattle.writing.proofs.put_actions.Statement.{statement}
-use Rattle.writing.proofs.put_actions.Tie as tie
+use Rattle.putting.proofs.Putting.{Left, in-front, all-left, first-fits, first-put, none-left}
+use Rattle.putting.proofs.Entries.{conditionsFrom, actionsFrom, unlessBytes, no-action-left, announced-first, action-first}
+use Rattle.scribing.proofs.put_actions.Statement.{statement}
+use Rattle.scribing.proofs.put_actions.Tie as tie
 
 -- an action's own bytes, then its conditions, which end at a place, then its situations
 module _ (actions conditions : List ℕ) (i used next : ℕ) where
