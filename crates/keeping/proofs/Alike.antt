@@ -22,8 +22,8 @@ use Rattle.varied.specs.Figures.{plansAmong}
 use Rattle.varied.proofs.Comes.{comes-to, come-more, plan-of-actions, answer-0-told, refusal-told}
 use Rattle.varied.proofs.Alike.{AllPlans, plan-then-plans}
 use Rattle.varied.proofs.Told.{plans-among-length, plans-among-more, all-plans-more}
-use Rattle.tallying.specs.Kept.{planAt, Kept, KeptBelow}
-use Rattle.tallying.proofs.Keeping.{none-kept, kept-below}
+use Rattle.matching.specs.Kept.{planAt, Kept, KeptBelow}
+use Rattle.matching.proofs.Keeping.{none-kept, kept-below}
 use Rattle.keeping.specs.Seeds.{KeptAll}
 
 -- what stands in the room from 256 on is as long as a plan

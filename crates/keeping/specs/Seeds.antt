@@ -19,7 +19,7 @@ use Rattle.varied.specs.Outcomes.{Outcome, planned, ComesTo, Come}
 use Rattle.varied.specs.Report.{Reports}
 use Rattle.varied.specs.Figures.{plansAmong, reportOf}
 use Rattle.varied.proofs.Alike.{AllPlans}
-use Rattle.tallying.specs.Kept.{Kept}
+use Rattle.matching.specs.Kept.{Kept}
 use Rattle.keeping.specs.declared.Extent.{Extent}
 use Rattle.keeping.specs.declared.FirstSeed.{FirstSeed}
 use Rattle.keeping.specs.declared.FirstSeed.the-variants.{Settles, Plans}

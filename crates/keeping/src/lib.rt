@@ -6,7 +6,7 @@ ghost use lib.ListN.{length, take, drop};
 ghost use Rattle.study.specs.Study.{Study};
 ghost use Rattle.draw.specs.Draw.{drawn};
 ghost use Rattle.handing.specs.Handing.{Taken};
-ghost use Rattle.tallying.specs.Kept.{RoomFor, Kept};
+ghost use Rattle.matching.specs.Kept.{RoomFor, Kept};
 ghost use Rattle.keeping.specs.Seeds.{InRange, OrderedOnce, CountedOnce, TakenFirst, FirstTaken, Judges, KeptAll};
 use answer::Answer;
 
@@ -112,7 +112,7 @@ fn keep(room: &[u8], len: usize, k: usize, base: usize, stride: usize, region: &
         → Kept (now (region .entry)) base stride len plans
         → Kept (now (region .exit)) base stride len (plans ++ (take len (drop 256 (now (room .entry))) ∷ []))) ⌝ }
 {
-    tallying::keep(&room[256..], len, k, base, stride, region);
+    matching::keep(&room[256..], len, k, base, stride, region);
 }
 
 // Few actions: keeps the plan of the first seed, which was taken, then takes and keeps those of the others.

@@ -13,7 +13,7 @@ use borrow.Author.Tests.{eq-eqb, ne-eqb}
 use Rattle.ranks.specs.Ranks.{one, count}
 use Rattle.ranks.proofs.Laws.{count-append}
 use Rattle.varied.specs.Figures.{standing, listed}
-use Rattle.tallying.specs.Kept.{planAt}
+use Rattle.matching.specs.Kept.{planAt}
 use Rattle.tallying.specs.Tallied.{tallied}
 
 -- ---- figures that are listed

@@ -10,9 +10,9 @@ use lib.ListN.{length, getD, take, drop, length-append, length-drop, take-append
 use lib.Seq.{getD-take, getD-drop, length-take-le, drop-drop, take-at, drop-at}
 use Rattle.ranks.specs.Ranks.{count}
 use Rattle.varied.specs.Figures.{standing, listed, rows}
-use Rattle.tallying.specs.Kept.{Kept, RoomFor, KeptBelow}
+use Rattle.matching.specs.Kept.{Kept, RoomFor, KeptBelow}
 use Rattle.tallying.specs.Tallied.{tallied, AllBelow}
-use Rattle.tallying.proofs.Places.{row-within}
+use Rattle.matching.proofs.Places.{row-within}
 use Rattle.tallying.proofs.Counting.{length-listed, row-tallied}
 
 -- ---- the entries of a position

@@ -4,7 +4,7 @@ ghost use Prim.Native.Nat.{ℕ, _+_, _≤_, _<_};
 ghost use lib.ListN.{length};
 ghost use Rattle.study.specs.Study.{Study};
 ghost use Rattle.varied.specs.Report.{Reports};
-ghost use Rattle.tallying.specs.Kept.{RoomFor};
+ghost use Rattle.matching.specs.Kept.{RoomFor};
 ghost use Rattle.stages.specs.Whole.{KnownIn};
 ghost use Rattle.keeping.specs.Seeds.{InRange, EnteredIn, OrderedOnce, CountedOnce, FirstTaken, Reported};
 use answer::Answer;
@@ -28,7 +28,7 @@ fn count_few(e: Extent, members: u64, words: &[u64; 64], room: &mut [u8; 512], r
 {
     let mut kept = [0u8; 4096];
     keeping::keep_few(e, members, words, room, &mut kept);
-    let different = tallying::different(e.seeds, e.total, 0, 64, &kept);
+    let different = matching::different(e.seeds, e.total, 0, 64, &kept);
     heading::head(e.seeds as u8, 0, 0, 0, different as u8, report);
     tallying::rows_from(e.seeds, e.total, e.actions, &kept, report);
 }
@@ -52,7 +52,7 @@ fn count_many(
         → Reported t (e .first) (e .seeds) (e .total) (now (report .entry)) (now (report .exit))) ⌝ }
 {
     keeping::keep_many(file, e, acts, vars, steps, wants, room, report);
-    let different = tallying::different(e.seeds, e.total, keeping::HEAD, e.actions, report);
+    let different = matching::different(e.seeds, e.total, keeping::HEAD, e.actions, report);
     heading::head(e.seeds as u8, 0, 0, 0, different as u8, report);
     tallying::rows_in_place(e.seeds, e.total, e.actions, report);
 }

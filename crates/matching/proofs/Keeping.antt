@@ -9,8 +9,8 @@ use native.Mathlib.Decide.{ℕ-discrete}
 use lib.ListN.{length, getD, take, drop, set, length-set}
 use lib.Seq.{getD-set-same, getD-set-other, drop-set-lt, getD-take, length-take-le}
 use Rattle.plain.proofs.Lists.{each-more}
-use Rattle.tallying.specs.Kept.{planAt, Kept, RoomFor, KeptBelow}
-use Rattle.tallying.proofs.Places.{row-within, one-column}
+use Rattle.matching.specs.Kept.{planAt, Kept, RoomFor, KeptBelow}
+use Rattle.matching.proofs.Places.{row-within, one-column}
 
 -- the plan's first p entries are stored as plan k
 pub record KeptTo (plan : List ℕ) (k base stride len : ℕ) (before : List ℕ) (p : ℕ) (region : List ℕ) : Type 0 where

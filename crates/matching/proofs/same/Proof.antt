@@ -1,4 +1,4 @@
--- `tallying::same` meets its contract: each turn compares one entry, and the plans are the same if they are from there on.
+-- `matching::same` meets its contract: each turn compares one entry, and the plans are the same if they are from there on.
 -- Assumes nothing.
 use mathlib.Core.Path.{_≡_, refl, sym, _∙_}
 use mathlib.Core.List.{List}
@@ -6,11 +6,11 @@ use Prim.Native.Nat.{ℕ, _+_, _*_, _-_, _≤_, _<_}
 use native.Mathlib.Omega.{arith}
 use lib.ListN.{length, drop}
 use Rattle.varied.specs.Figures.{sameList}
-use Rattle.tallying.specs.Kept.{planAt, Kept}
-use Rattle.tallying.proofs.Places.{row-within}
-use Rattle.tallying.proofs.Differing.{entries-same, entries-differ, no-entry-left}
-use Rattle.tallying.proofs.same.Statement.{statement}
-use Rattle.tallying.proofs.same.Tie as tie
+use Rattle.matching.specs.Kept.{planAt, Kept}
+use Rattle.matching.proofs.Places.{row-within}
+use Rattle.matching.proofs.Differing.{entries-same, entries-differ, no-entry-left}
+use Rattle.matching.proofs.same.Statement.{statement}
+use Rattle.matching.proofs.same.Tie as tie
 
 abbrev Inv-loop : tie.InvT-loop
 Inv-loop j k len base stride region p₀ at₀ p at =

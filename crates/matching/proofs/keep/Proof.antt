@@ -1,12 +1,12 @@
--- `tallying::keep` meets its contract: each turn stores one entry in the next row.
+-- `matching::keep` meets its contract: each turn stores one entry in the next row.
 -- Assumes nothing.
 use mathlib.Core.Path.{_≡_}
 use Prim.Native.Nat.{_+_, _*_, _-_, _≤_}
 use native.Mathlib.Omega.{arith}
-use Rattle.tallying.proofs.Places.{row-within}
-use Rattle.tallying.proofs.Keeping.{KeptTo, nothing-stored, one-stored, all-stored}
-use Rattle.tallying.proofs.keep.Statement.{statement}
-use Rattle.tallying.proofs.keep.Tie as tie
+use Rattle.matching.proofs.Places.{row-within}
+use Rattle.matching.proofs.Keeping.{KeptTo, nothing-stored, one-stored, all-stored}
+use Rattle.matching.proofs.keep.Statement.{statement}
+use Rattle.matching.proofs.keep.Tie as tie
 
 abbrev Inv-loop : tie.InvT-loop
 Inv-loop plan len k base stride region₀ p₀ at₀ region p at = (p ≤ len) × ((at ≡ base + stride * p) × KeptTo plan k base stride len region₀ p region)

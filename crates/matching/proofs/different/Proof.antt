@@ -1,4 +1,4 @@
--- `tallying::different` meets its contract: each turn counts one plan more, unless it comes again.
+-- `matching::different` meets its contract: each turn counts one plan more, unless it comes again.
 -- Assumes nothing.
 use mathlib.Core.Path.{_≡_}
 use mathlib.Core.Logic.{⊎-elim}
@@ -9,10 +9,10 @@ use native.Mathlib.Omega.{arith}
 use lib.ListN.{length, drop}
 use Rattle.ranks.specs.Ranks.{one}
 use Rattle.varied.specs.Figures.{different as Figures·different}
-use Rattle.tallying.specs.Kept.{Kept}
-use Rattle.tallying.proofs.Differing.{different-next, different-none}
-use Rattle.tallying.proofs.different.Statement.{statement}
-use Rattle.tallying.proofs.different.Tie as tie
+use Rattle.matching.specs.Kept.{Kept}
+use Rattle.matching.proofs.Differing.{different-next, different-none}
+use Rattle.matching.proofs.different.Statement.{statement}
+use Rattle.matching.proofs.different.Tie as tie
 
 abbrev Inv-loop : tie.InvT-loop
 Inv-loop n len base stride region found₀ j₀ found j =

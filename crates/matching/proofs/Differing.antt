@@ -13,7 +13,7 @@ use lib.Seq.{drop-cons}
 use borrow.Author.Tests.{eq-eqb, ne-eqb}
 use Rattle.ranks.specs.Ranks.{one}
 use Rattle.varied.specs.Figures.{sameList, isAmong, different}
-use Rattle.tallying.specs.Kept.{planAt, Kept}
+use Rattle.matching.specs.Kept.{planAt, Kept}
 
 -- ---- two plans from a position on
 

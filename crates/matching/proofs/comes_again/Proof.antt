@@ -1,4 +1,4 @@
--- `tallying::comes_again` meets its contract: each turn compares the plan with one more of those behind it.
+-- `matching::comes_again` meets its contract: each turn compares the plan with one more of those behind it.
 -- Assumes nothing.
 use mathlib.Core.Path.{_≡_, refl, sym, _∙_}
 use mathlib.Core.List.{List}
@@ -6,10 +6,10 @@ use Prim.Native.Nat.{ℕ, _+_, _-_, _≤_, _<_}
 use native.Mathlib.Omega.{arith}
 use lib.ListN.{length, drop}
 use Rattle.varied.specs.Figures.{isAmong}
-use Rattle.tallying.specs.Kept.{planAt, Kept}
-use Rattle.tallying.proofs.Differing.{among-next, among-none}
-use Rattle.tallying.proofs.comes_again.Statement.{statement}
-use Rattle.tallying.proofs.comes_again.Tie as tie
+use Rattle.matching.specs.Kept.{planAt, Kept}
+use Rattle.matching.proofs.Differing.{among-next, among-none}
+use Rattle.matching.proofs.comes_again.Statement.{statement}
+use Rattle.matching.proofs.comes_again.Tie as tie
 
 abbrev Inv-loop : tie.InvT-loop
 Inv-loop j n len base stride region k₀ k =
