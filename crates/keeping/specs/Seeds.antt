@@ -1,20 +1,12 @@
--- What stays true from seed to seed, and what is kept and reported of the seeds' plans.
+-- What the first seed tells of all, and what is kept and reported of the seeds' plans.
 -- Assumes nothing.
 use Prim.Native.Nat.{ℕ, _+_, _*_, _≤_}
 use mathlib.Core.Path.{_≡_}
 use mathlib.Core.List.{List, _++_}
 use lib.ListN.{length, take, drop}
 use Rattle.study.specs.Study.{Study}
-use Rattle.lawful.specs.Lawful.{Lawful}
-use Rattle.tables.specs.Tables.{ActionTables, HoldsActions, NamesSetters}
-use Rattle.tables.specs.Rows.{Row, startColumn, seen}
-use Rattle.walks.specs.Walks.{startOf}
-use Rattle.tracing.specs.Facts.{Tells}
-use Rattle.tracing.specs.Steps.{Rowed, Members}
-use Rattle.renaming.specs.Renaming.{ByAction}
 use Rattle.draw.specs.Draw.{drawn}
 use Rattle.handing.specs.Handing.{Taken}
-use Rattle.stages.specs.Whole.{Orderly, WantsCountedIn}
 use Rattle.varied.specs.Outcomes.{Outcome, planned, ComesTo, Come}
 use Rattle.varied.specs.Report.{Reports}
 use Rattle.varied.specs.Figures.{plansAmong, reportOf}
@@ -30,32 +22,6 @@ pub record InRange (first seeds : ℕ) : Type 0 where
   pub high : first + seeds ≤ 2147483647
   pub some : 1 ≤ seeds
   pub few : seeds ≤ 64
-
--- the tables hold a lawful study, and every variable's walk is entered in the table of steps
-pub record Entered (file : List ℕ) (e : Extent) (acts : ActionTables) (starts steps : List ℕ) (t : Study) : Type 0 where
-  pub lawful : Lawful t
-  pub variables : e .vars ≡ length (t .tasks)
-  pub actions : HoldsActions file (t .situation) (e .actions) acts (t .actions)
-  pub setters : NamesSetters (t .situation) (e .actions) (acts .setters) (t .actions)
-  pub tells-starts : Tells startOf (e .vars) starts t
-  pub rowed : Rowed t (e .vars) steps
-  pub list : List ℕ
-  pub members : Members t list
-  pub counted : length list ≡ e .total
-
--- the same of tables in rows
-abbrev pub EnteredIn : List ℕ → Extent → List Row → List Row → List ℕ → List ℕ → Study → Type 0
-EnteredIn file e acts vars setters steps t = Entered file e (seen setters acts) (startColumn vars) steps t
-
--- few actions, once for all seeds: what comes directly before each is known by action
-pub record OrderedOnce (e : Extent) (members : ℕ) (words : List ℕ) (t : Study) : Type 0 where
-  pub actions : e .actions ≡ length (t .actions)
-  pub orderly : Orderly (e .total) t
-  pub by-action : ByAction t members words
-
--- many: the values that they want are counted
-abbrev pub CountedOnce : List ℕ → Extent → List Row → List Row → List ℕ → List ℕ → Study → Type 0
-CountedOnce file e acts vars steps wants t = WantsCountedIn file (e .vars) (e .actions) (e .total) acts vars steps wants t
 
 -- so many were taken with the first seed, and stand in the room from 256 on
 pub record TakenFirst (t : Study) (e : Extent) (taken : ℕ) (room : List ℕ) : Type 0 where

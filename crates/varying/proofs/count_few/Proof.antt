@@ -3,7 +3,7 @@
 use Prim.Native.Nat.{ℕ}
 use native.Mathlib.Omega.{arith}
 use lib.ListN.{length-replicate}
-use Rattle.keeping.proofs.Once.{total-within}
+use Rattle.varying.proofs.Once.{total-within}
 use Rattle.keeping.proofs.Alike.{as-many-plans, actions-kept}
 use Rattle.keeping.proofs.Writing.{figures-apart}
 use borrow.Author.Needs.{needs}

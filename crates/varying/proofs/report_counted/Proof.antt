@@ -3,7 +3,7 @@
 use mathlib.Core.Path.{ap}
 use native.Mathlib.Omega.{arith}
 use lib.ListN.{length}
-use Rattle.keeping.proofs.Once.{figures-few}
+use Rattle.varying.proofs.Once.{figures-few}
 use Rattle.keeping.proofs.Writing.{reports-plans}
 use borrow.Author.Needs.{needs}
 use Rattle.varying.proofs.report_counted.Statement.{statement}

@@ -1,7 +1,7 @@
 -- `varying::report_few` meets its contract: a condition off its walk bars every seed, else what comes before what is known for all.
 -- Assumes nothing.
 use mathlib.Core.Path.{refl}
-use Rattle.keeping.proofs.Once.{entered-orderable, entered-once, off-comes}
+use Rattle.varying.proofs.Once.{entered-orderable, entered-once, off-comes}
 use borrow.Author.Needs.{needs}
 use Rattle.varying.proofs.report_few.Statement.{statement}
 use Rattle.varying.proofs.report_few.Tie as tie

@@ -5,7 +5,7 @@ use native.Mathlib.Omega.{arith}
 use Rattle.draw.specs.Draw.{drawn}
 use Rattle.stages.proofs.Drawing.{drawn-fine}
 use Rattle.stages.proofs.Stages.{known-given, given-moves, given-starts, given-goals, given-traced}
-use Rattle.keeping.proofs.Once.{known-entered}
+use Rattle.varying.proofs.Once.{known-entered}
 use Rattle.keeping.proofs.Alike.{without-comes}
 use borrow.Author.Needs.{needs}
 use Rattle.varying.proofs.report_loaded.Statement.{statement}

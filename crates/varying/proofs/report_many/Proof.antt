@@ -2,7 +2,7 @@
 -- Assumes nothing.
 use mathlib.Core.Path.{refl}
 use Rattle.plain.proofs.Lists.{all-zeros}
-use Rattle.keeping.proofs.Once.{entered-wishes, entered-rowed, entered-met, off-comes}
+use Rattle.varying.proofs.Once.{entered-wishes, entered-rowed, entered-met, off-comes}
 use borrow.Author.Needs.{needs}
 use Rattle.varying.proofs.report_many.Statement.{statement}
 use Rattle.varying.proofs.report_many.Tie as tie

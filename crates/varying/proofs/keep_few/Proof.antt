@@ -1,16 +1,17 @@
--- `keeping::keep_few` meets its contract: the first seed gives a plan, so each does, and each is kept.
+-- `varying::keep_few` meets its contract: the first seed gives a plan, so each does, and each is kept.
 -- Assumes nothing.
 use mathlib.Core.Path.{_≡_, refl}
 use Prim.Native.Nat.{_-_, _≤_}
 use native.Mathlib.Omega.{arith}
 use lib.ListN.{length}
 use Rattle.study.specs.Study.{Study}
-use Rattle.keeping.specs.Seeds.{OrderedOnce, FirstTaken, KeptAll}
-use Rattle.keeping.proofs.Once.{total-few}
+use Rattle.varying.specs.Entered.{OrderedOnce}
+use Rattle.keeping.specs.Seeds.{FirstTaken, KeptAll}
+use Rattle.varying.proofs.Once.{total-few}
 use Rattle.keeping.proofs.Alike.{plan-long, later-comes, first-kept, one-more-kept}
 use borrow.Author.Needs.{needs}
-use Rattle.keeping.proofs.keep_few.Statement.{statement}
-use Rattle.keeping.proofs.keep_few.Tie as tie
+use Rattle.varying.proofs.keep_few.Statement.{statement}
+use Rattle.varying.proofs.keep_few.Tie as tie
 
 abbrev Inv-loop : tie.InvT-loop
 Inv-loop e members words room₀ kept₀ k₀ room kept k =

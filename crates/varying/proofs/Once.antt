@@ -31,8 +31,8 @@ use Rattle.stages.proofs.Few.{rank-below}
 use Rattle.stages.proofs.Drawing.{drawn-stands}
 use Rattle.varied.specs.Outcomes.{barred, anyRoom, ComesTo}
 use Rattle.varied.proofs.Comes.{comes-to, refusal-told}
 use Rattle.keeping.specs.declared.Extent.{Extent}
-use Rattle.keeping.specs.Seeds.{Entered, OrderedOnce}
+use Rattle.varying.specs.Entered.{Entered, OrderedOnce}
 
 module _ {total : ℕ} {t : Study} (orderly : Orderly total t) {actions : ℕ} (is : actions ≡ length (t .actions)) where
   -- no more than there are actions are on walks
