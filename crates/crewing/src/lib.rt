@@ -6,6 +6,8 @@ ghost use Rattle.tables.specs.Rows.{countColumn};
 ghost use Rattle.standing.specs.Reads.{Bounds};
 ghost use Rattle.spelling.specs.Lists.{crewRecords};
 ghost use Rattle.spelling.specs.Lent.{errandsIn, crewsIn};
+ghost use lib.ListN.{length};
+ghost use Rattle.crewing.specs.Crewing.{LentAs};
 ghost use Rattle.drafts.specs.Drafts.{TasksGoOn, Drafted, Leads, Keeps};
 use advancing::Progress;
 use advancing::Step;
@@ -21,6 +23,38 @@ fn tasks_in(len: usize) -> usize
     whole + 1
 }
 
+// A crew as it is lent: how many tasks it takes, its seed, and whether it is lent whole.
+pub struct Lent {
+    many: usize,
+    seed: u64,
+    whole: bool,
+}
+
+// The crew at a place of the lent bytes. One that is cut short, or not lent, takes all tasks that are left, and no byte of its seed
+// is lent.
+fn crew_at(crews: &[u8], i: usize, left: usize) -> Lent
+    requires { ⌜ i ≤ length (now crews) ⌝ }
+    ensures { λ r. ⌜ LentAs (now (crews .entry)) i left (r .many) (r .seed) (r .whole) ⌝ }
+{
+    if crews.len() - i < 5 {
+        return Lent {
+            many: tasks_in(left),
+            seed: advancing::seed_of(
+                drafts::UNLENT,
+                drafts::UNLENT,
+                drafts::UNLENT,
+                drafts::UNLENT,
+            ),
+            whole: false,
+        };
+    }
+    Lent {
+        many: tables::wide(crews[i]),
+        seed: advancing::seed_of(crews[i + 1], crews[i + 2], crews[i + 3], crews[i + 4]),
+        whole: true,
+    }
+}
+
 // Bytes or tasks that are left make one crew more, each byte of whose seed is not lent.
 pub fn judge_crews(begin: Progress, crews: &[u8], tasks: &[u8], rows: &[[u8; 3]; 32]) -> Step
     requires { ⌜ Bounds begin (countColumn (now rows)) × TasksGoOn (begin .last) ⌝ }
@@ -32,26 +66,18 @@ pub fn judge_crews(begin: Progress, crews: &[u8], tasks: &[u8], rows: &[[u8; 3];
     let mut p = begin;
     let mut i = 0;
     let mut used = 0;
-    while 5 <= crews.len() - i {
-        let many = tables::wide(crews[i]);
-        let n = advancing::seed_of(crews[i + 1], crews[i + 2], crews[i + 3], crews[i + 4]);
-        let step = manning::judge_crew(p, i == 0, many, n, tasks, used, rows);
+    while i < crews.len() || used < tasks.len() {
+        let lent = crew_at(crews, i, tasks.len() - used);
+        let step = manning::judge_crew(p, i == 0, lent.many, lent.seed, tasks, used, rows);
         let Step::On(after) = step else {
             return step;
         };
+        if !lent.whole {
+            return step;
+        }
         p = after;
-        used += 3 * many;
+        used += 3 * lent.many;
         i += 5;
     }
-    if i == crews.len() && used == tasks.len() {
-        return Step::On(p);
-    }
-    let rest = tasks_in(tasks.len() - used);
-    let n = advancing::seed_of(
-        drafts::UNLENT,
-        drafts::UNLENT,
-        drafts::UNLENT,
-        drafts::UNLENT,
-    );
-    manning::judge_crew(p, i == 0, rest, n, tasks, used, rows)
+    Step::On(p)
 }
