@@ -4,7 +4,7 @@ use mathlib.Core.Path.{_≡_, refl, sym, ap, _∙_, subst}
 use mathlib.Core.Bool.{true, false, _&&_, _||_, or-false, or-comm}
 use mathlib.Core.Option.{none, some}
 use mathlib.Core.List.{List, [], _∷_, _++_}
-use Prim.Native.Nat.{ℕ, suc, _+_, _*_, _%_, _≤_, _<_}
+use Prim.Native.Nat.{ℕ, zero, suc, _+_, _*_, _%_, _≤_, _<_}
 use native.Mathlib.Decide.{ℕ-discrete}
 use native.Mathlib.Omega.{arith}
 use lib.Dec.{eqb}
@@ -19,7 +19,7 @@ use Rattle.study.proofs.Setters.{sets-more}
 use Rattle.lawful.specs.Lengths.{bytesOfTimes, placesFrom}
 use Rattle.spelling.specs.Lent.{unlentCondition, firstOf, left, actionsIn}
 use Rattle.spelling.proofs.LentBytes.{five-bytes, so-many-first}
-use Rattle.repeats.specs.Repeats.{entryLength, Small}
+use Rattle.repeats.specs.Repeats.{entryLength, placeOf, Small}
 
 -- the mark of a variable's value
 abbrev markOf : ℕ → ℕ → ℕ
@@ -32,6 +32,11 @@ one-mark-each v q w r few many = go (ℕ-discrete v w) (ℕ-discrete q r)
     go (yes e) (yes f) = rw (e, f, eq-eqb w w refl, eq-eqb r r refl) (eq-eqb (markOf w r) (markOf w r) refl)
     go (yes e) (no g) = rw (e, eq-eqb w w refl, ne-eqb q r g) (ne-eqb (markOf w q) (markOf w r) (λ f. g (omega arith)))
     go (no g) _ = rw (ne-eqb v w g) (ne-eqb (markOf v q) (markOf w r) (λ f. g (omega arith)))
+
+-- no entry stands before the first
+pub after-front : (front : ℕ) (actions : List ℕ) (k : ℕ) → front ≤ placeOf front actions k
+after-front front actions zero = omega arith
+after-front front actions (suc k) = omega (arith, after-front front actions k)
 
 -- fewer bytes than an entry's stand for an action that is not small, or for none
 none-of-few : (bytes : List ℕ) (conditions : List Condition) → length bytes < 5 → Small (actionsIn bytes conditions) → actionsIn bytes conditions ≡ []

@@ -1,6 +1,6 @@
 -- Where the first action stands that repeats an earlier one, in the file that lists stand for.
 -- Assumes nothing.
-use Prim.Native.Nat.{ℕ, _+_, _*_, _<_}
+use Prim.Native.Nat.{ℕ, zero, suc, _+_, _*_, _<_}
 use mathlib.Core.Path.{_≡_}
 use mathlib.Core.Logic.{_≢_}
 use mathlib.Core.Option.{none, some}
@@ -13,6 +13,11 @@ use Rattle.lawful.specs.Lengths.{bytesOfTimes, placesFrom}
 -- an action with so many conditions, and its situations
 abbrev pub entryLength : ℕ → ℕ → ℕ
 entryLength set many = 4 + 3 * many + bytesOfTimes set
+
+-- where entry k of lent bytes stands, the first standing at a place
+abbrev pub placeOf : ℕ → List ℕ → ℕ → ℕ
+placeOf front actions zero = front
+placeOf front actions (suc k) = placeOf front actions k + entryLength (getD actions (5 * k + 3) 0) (getD actions (5 * k + 4) 0)
 
 -- actions whose variables and values are small enough for a mark each
 abbrev pub Small : List Action → Type 0

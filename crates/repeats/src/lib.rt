@@ -2,13 +2,13 @@
 ghost use mathlib.Core.Path.{_≡_};
 ghost use mathlib.Core.Bool.{_||_};
 ghost use mathlib.Core.List.{List};
-ghost use Prim.Native.Nat.{ℕ, _≤_, _<_};
+ghost use Prim.Native.Nat.{ℕ, _*_, _≤_, _<_};
 ghost use lib.Dec.{eqb};
 ghost use lib.ListN.{length};
 ghost use Rattle.bits.specs.Bits.{bit, within};
 ghost use Rattle.study.specs.Study.{Condition};
 ghost use Rattle.spelling.specs.Lent.{actionsIn};
-ghost use Rattle.repeats.specs.Repeats.{entryLength, Repeated};
+ghost use Rattle.repeats.specs.Repeats.{entryLength, placeOf, Repeated};
 
 // Marks the value, of 512, and says whether it was marked before.
 fn mark(at: usize, marks: &mut [u64; 8]) -> bool
@@ -43,22 +43,34 @@ fn entry_length(set: u8, many: u8) -> usize
     bytes + 2
 }
 
+// Where the entry at a place of the lent bytes stands in the file, the first standing at `front`.
+fn place_at(front: usize, actions: &[u8], i: usize) -> usize
+    requires { ⌜ (front ≤ 30000) × (i ≤ length (now actions)) × (length (now actions) ≤ 1280) ⌝ }
+    ensures { λ r. ⌜ ((k : ℕ) → i ≡ 5 * k → r ≡ placeOf front (now (actions .entry)) k) ⌝ }
+{
+    let mut place = front;
+    let mut j = 0;
+    while 5 <= i - j {
+        place += entry_length(actions[j + 3], actions[j + 4]);
+        j += 5;
+    }
+    place
+}
+
 // The place of the first action in force that sets what an earlier one in force sets, where the first stands at `front`; 0 if none does.
 pub fn first_repeat(situation: u8, front: usize, actions: &[u8]) -> usize
     requires { ⌜ (situation ≤ 7) × (1 ≤ front) × (front ≤ 30000) × (length (now actions) ≤ 1280) ⌝ }
     ensures { λ r. ⌜ ((conditions : List Condition) → Repeated situation front (actionsIn (now (actions .entry)) conditions) r) ⌝ }
 {
     let mut marks = [0u64; 8];
-    let mut place = front;
     let mut i = 0;
     while 5 <= actions.len() - i {
         if in_force(actions[i + 3], situation) {
             let at = 16 * (tables::wide(actions[i]) % 32) + tables::wide(actions[i + 2]) % 16;
             if mark(at, &mut marks) {
-                return place;
+                return place_at(front, actions, i);
             }
         }
-        place += entry_length(actions[i + 3], actions[i + 4]);
         i += 5;
     }
     0
