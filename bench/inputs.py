@@ -1,6 +1,6 @@
 """The files that the calls are measured on: the porter file, files of 10 to 256 actions made from a fixed seed, two of them
 with a set of situations for each action, one of them with eight crews, and the longest file with one crew and with eight. Each has
-a straight plan for crew 0. And a chart for each of them."""
+a straight plan for crew 0. And a chart and an access log for each of them."""
 
 import random
 import sys
@@ -91,6 +91,24 @@ def files():
     longest = (ROOT / "studies" / "longest.bin").read_bytes()
     yield "longest, 1 crew", with_crews(longest, 1)
     yield "longest", with_crews(longest, study.MOST_CREWS)
+
+
+def log(data, plan, events):
+    """An access log of crew 0, of which a part is held: three events in four are the next step of the plan, and behind its end one that
+    may be done, as long as there is one."""
+    rng = random.Random(events)
+    said = oracle.heard(data, 0)
+    state, tick, left, out = oracle.start_state(said), rng.randrange(oracle.ROUND), list(plan), []
+    numbers = [number for number in range(len(said.actions)) if oracle.usable(said, number)]
+    for _ in range(events):
+        ready = [number for number in numbers if oracle.may_be_done(state, said.actions[number])]
+        barred = [number for number in numbers if number not in ready]
+        number = rng.choice((left[:1] or ready or barred) if rng.random() < 0.75 else barred or ready)
+        if number in ready:
+            state, left = oracle.done(state, said.actions[number]), left[1:]
+        out.append((tick, number))
+        tick = (tick + rng.randrange(2000)) % oracle.ROUND
+    return oracle.log_of(out)
 
 
 def chart(data, plan):

@@ -423,6 +423,63 @@ answer plain_run(const uint8_t *file, size_t file_len, uint64_t crew, const uint
   return three(0, s.variables, 0);
 }
 
+enum { EVENT = 16, EVENT_LENGTH = 4, MOST_EVENTS = 16384, WENT_BACK = 32768 };
+
+/* What stands where no event is read any more: one cut short, of another kind, or too many; or the end. */
+static answer behind_events(const uint8_t *log, size_t len, size_t at) {
+  if (at == len) return fine;
+  if (log[at] != EVENT) return refused(2, at);
+  return refused(len - at < EVENT_LENGTH ? 1 : 19, at);
+}
+
+static void put_record(const study *s, uint32_t sum, unsigned waiting, unsigned variable, unsigned value, marrowkite_occupant *to) {
+  memcpy(to->state, s->starts, s->variables);
+  memset(to->state + s->variables, 0, MOST_VARIABLES - s->variables);
+  for (int k = 0; k < 4; k++) to->sum[k] = (uint8_t)(sum >> 8 * k);
+  to->waiting = (uint8_t)waiting;
+  to->variable = (uint8_t)(waiting ? variable : 0);
+  to->value = (uint8_t)(waiting ? value : 0);
+  to->spare = 0;
+}
+
+PART unsigned tick_at(const uint8_t *log, size_t at) { return (unsigned)log[at + 1] << 8 | log[at + 2]; }
+
+/* One pass: the events that may be are counted beforehand, and the first event's step is that from its own tick. */
+answer plain_replay(const uint8_t *file, size_t file_len, uint64_t crew, const uint8_t *log, size_t log_len,
+                    marrowkite_occupant *occupant) {
+  study s;
+  answer loaded = load(file, file_len, crew, &s);
+  if (loaded.number != 0) return loaded;
+  size_t events = log_len / EVENT_LENGTH < MOST_EVENTS ? log_len / EVENT_LENGTH : MOST_EVENTS, end = EVENT_LENGTH * events, held = 0;
+  unsigned last = events ? tick_at(log, 0) : 0, waiting = 0, variable = 0, value = 0;
+  uint32_t sum = 0;
+  for (size_t at = 0; at < end; at += EVENT_LENGTH) {
+    if (log[at] != EVENT) return refused(2, at);
+    unsigned i = log[at + 3], tick = tick_at(log, at), step = (tick - last) & 0xffff;
+    if (i >= s.actions) return refused(14, at);
+    if (!s.in_force[i]) return refused(20, at);
+    if (step >= WENT_BACK) return refused(23, at);
+    sum += step;
+    last = tick;
+    variable = s.variable[i], value = s.pre[i], waiting = 1;
+    if (s.starts[variable] != value) goto hold;
+    for (unsigned c = s.place[i], over = s.end[i]; c < over; c += 3)
+      if (s.starts[file[c + 1]] != file[c + 2]) {
+        variable = file[c + 1], value = file[c + 2];
+        goto hold;
+      }
+    s.starts[variable] = s.post[i];
+    waiting = 0;
+    continue;
+  hold:
+    held++;
+  }
+  answer behind = behind_events(log, log_len, end);
+  if (behind.number != 0) return behind;
+  put_record(&s, sum, waiting, variable, value, occupant);
+  return three(0, events - held, held);
+}
+
 answer plain_draw(uint64_t seed, uint64_t count, uint8_t *ranks, size_t ranks_len) {
   if (seed - 1 >= LARGEST_SEED) return refused(18, seed);
   if (count > MOST_ACTIONS) return refused(19, count);

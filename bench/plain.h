@@ -19,5 +19,7 @@ marrowkite_answer plain_report(const uint8_t *file, size_t file_len, uint64_t cr
                                uint8_t *report, size_t report_len);
 marrowkite_answer plain_chart(const uint8_t *file, size_t file_len, uint64_t crew, const uint8_t *actions, size_t actions_len,
                               const uint8_t *pairs, size_t pairs_len);
+marrowkite_answer plain_replay(const uint8_t *file, size_t file_len, uint64_t crew, const uint8_t *log, size_t log_len,
+                               marrowkite_occupant *occupant);
 
 #endif

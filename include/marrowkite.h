@@ -47,7 +47,7 @@
  *       the buffer
  *   13  it is too short for the answer                            first: the length needed
  *
- *       the plan that is to be run, and a chart's list
+ *       the plan that is to be run, and a chart's list; a log's events have rows of their own
  *   14  an entry is no action's number; in a chart's list also:
  *       an action out of force                                    first: its index in the plan or the list
  *   20  the action is out of force (tested before 15)             first: its index in the plan
@@ -73,6 +73,15 @@
  *       wants what it sets, or the one that leaves what it wants  first, second: the lowest such two actions, by
  *                                                                 first and then second
  *
+ *       the log: tested event by event, in this order
+ *    2  it is of another kind than 16                             first: offset of the event in the log; so for all six
+ *    1  the log ends inside it
+ *   19  it is the 16,385th
+ *   14  its action is no action's number
+ *   20  its action is out of force
+ *   23  the log went back: the step from the tick before to its
+ *       own, taken round 65,536, is 32,768 or more
+ *
  *
  * CREWS
  *
@@ -87,8 +96,9 @@
  * alone: nothing is allocated, freed or kept.
  * - A pointer is never null, not even with length 0. For an empty slice pass a pointer to any byte and length 0.
  * - `const uint8_t *` is only read. Two of these may overlap or be the same.
- * - `uint8_t *` is the buffer. It overlaps nothing else that is lent to the call, and nobody else reads or writes it
- *   meanwhile. The answer fills its first bytes; later bytes stay as they were. No byte outside it is touched.
+ * - `uint8_t *` is the buffer, and so is `marrowkite_occupant *`, one of 40 bytes. It overlaps nothing else that is lent to the
+ *   call, and nobody else reads or writes it meanwhile. The answer fills its first bytes; later bytes stay as they were. No
+ *   byte outside it is touched.
  * - No alignment is asked for.
  *
  * Calls keep nothing from one to the next: the archive has no variables. So calls may run on many threads at once, as
@@ -109,6 +119,7 @@
  *   marrowkite_write            768
  *   marrowkite_report        10,240
  *   marrowkite_chart         13,312
+ *   marrowkite_replay         3,456
  */
 #ifndef MARROWKITE_H
 #define MARROWKITE_H
@@ -124,6 +135,17 @@ typedef struct { uint64_t number, first, second; } marrowkite_answer;
 
 /* One record of a file: its kind, where its body starts, the body's length, and the place after it. */
 typedef struct { uint64_t number, kind, start, len, next; } marrowkite_record;
+
+/*
+ * Somebody whose access log was replayed, in 40 bytes: the value of each variable (0 for those past the file's last), all steps'
+ * sum in four bytes, least significant first, and whether the last event was held (1) or not (0): if so, for which value of
+ * which variable, else 0 and 0. The spare byte is 0.
+ */
+typedef struct {
+  uint8_t state[32];
+  uint8_t sum[4];
+  uint8_t waiting, variable, value, spare;
+} marrowkite_occupant;
 
 /*
  * Checks a file: 1 to 8 and 21. The first faulty record decides, and its faults are looked for in the order 2, 3, 1, 4, 5, 6;
@@ -221,6 +243,18 @@ marrowkite_answer marrowkite_report(const uint8_t *file, size_t file_len, uint64
  */
 marrowkite_answer marrowkite_chart(const uint8_t *file, size_t file_len, uint64_t crew, const uint8_t *actions,
                                    size_t actions_len, const uint8_t *pairs, size_t pairs_len);
+
+/*
+ * Replays an access log from a crew's start: events of four bytes, the kind 16, a tick of two bytes, most significant first, and an
+ * action; at most 16,384. 1 to 8 and 21, then 22, then event by event 2, 1, 19, 14, 20, 23.
+ * An event whose action may not be done is held: it changes no value, and the occupant waits for the first value that fails, that
+ * of the action's own variable, else of the lowest variable with a condition that does. Any other is done, and the occupant is
+ * idle. Values may come again, and the goal is not looked at. An event's step is its tick less the one before, taken round 65,536;
+ * the first one's is 0.
+ * Done: first is how many events were done, second how many were held; `occupant` says where that leads, whatever it said before.
+ */
+marrowkite_answer marrowkite_replay(const uint8_t *file, size_t file_len, uint64_t crew, const uint8_t *log, size_t log_len,
+                                    marrowkite_occupant *occupant);
 
 #ifdef __cplusplus
 }

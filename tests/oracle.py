@@ -15,14 +15,16 @@ buffer afterwards). A file is read into a Roster; a Study is what one of its cre
     write(situation, variables, actions, conditions, crews, tasks, buffer)
     report(file, crew, first, count, buffer)
     chart(file, crew, actions, pairs)
+    replay(file, crew, log, occupant)          the occupant's record is the buffer
 
 record_at, check and chart write nothing; their buffer afterwards is b"". `printed(input)` is what the program prints.
-`calls(seed, n)` yields n calls as (name, inputs), all but writes, reports and charts; `writes(seed, n)`, `reports(seed, n)` and
-`charts(seed, n)` yield n of these; `answer(name, inputs)` is what such a call answers.
+`calls(seed, n)` yields n calls as (name, inputs), all but writes, reports, charts and replays; `writes(seed, n)`,
+`reports(seed, n)`, `charts(seed, n)` and `replays(seed, n)` yield n of these; `answer(name, inputs)` is what such a call answers.
 
     python3 tests/oracle.py --self-test      document 01's worked cases; both ways of planning on random small files; where
                                              walks break, by following the trace; charts, by trying every order; crews
-                                             beside others against crews alone
+                                             beside others against crews alone; replays, against runs and by what moving the
+                                             ticks, cutting the log and another record may not alter
 """
 
 import itertools
@@ -44,6 +46,10 @@ LONGEST_FILE = 26482
 MOST_SITUATION = 7
 ALWAYS = 255  # the set of all eight situations, which is not written
 CAME_ROUND = 255  # the second number of 10 where the trace comes round
+EVENT = 16  # a kind of logs alone
+EVENT_LENGTH, MOST_EVENTS = 4, 16384
+ROUND, WENT_BACK = 65536, 32768  # ticks are numbers of 16 bits; a step so long, or longer, went back
+STATE_ROOM, OCCUPANT_LENGTH = 32, 40  # bytes of the occupant's record
 
 # Planning tries every list if there are no more lists than this; the self-test tries many more.
 LISTS_TO_TRY = 300
@@ -801,6 +807,69 @@ def chart(file, crew, actions, pairs):
     return judged_chart(study, list(actions), pairs_in(pairs)), b""
 
 
+def value_waited_for(state, action):
+    """The variable and the value that an action which may not be done waits for."""
+    variable = failing_variable(state, action)
+    return variable, action.pre if variable == action.variable else dict(action.conditions)[variable]
+
+
+@dataclass
+class Occupant:
+    """Somebody whose access log is replayed."""
+
+    state: tuple
+    waits_for: tuple = None  # a variable and a value, or None: idle
+    ticks: int = 0  # all steps' sum
+    done: int = 0
+    held: int = 0
+
+    def meets(self, action, step):
+        """An event moves the occupant on."""
+        self.ticks += step
+        if may_be_done(self.state, action):
+            self.state, self.waits_for, self.done = done(self.state, action), None, self.done + 1
+        else:
+            self.waits_for, self.held = value_waited_for(self.state, action), self.held + 1
+
+    def record(self):
+        """Its 40 bytes."""
+        waiting = (0, 0, 0) if self.waits_for is None else (1, *self.waits_for)
+        return bytes(self.state).ljust(STATE_ROOM, b"\0") + self.ticks.to_bytes(4, "little") + bytes([*waiting, 0])
+
+
+def replayed(study, log):
+    """The occupant after all events; raises Refused with 2, 1, 19, 14, 20 or 23."""
+    occupant, last = Occupant(start_state(study)), None
+    for at in range(0, len(log), EVENT_LENGTH):
+        kind, *body = log[at : at + EVENT_LENGTH]
+        if kind != EVENT:
+            raise Refused(2, at)
+        if len(body) < EVENT_LENGTH - 1:
+            raise Refused(1, at)
+        if occupant.done + occupant.held == MOST_EVENTS:
+            raise Refused(19, at)
+        high, low, number = body
+        if number >= len(study.actions):
+            raise Refused(14, at)
+        if not in_force(study, study.actions[number]):
+            raise Refused(20, at)
+        tick = 256 * high + low
+        step = 0 if last is None else (tick - last) % ROUND
+        if step >= WENT_BACK:
+            raise Refused(23, at)
+        occupant.meets(study.actions[number], step)
+        last = tick
+    return occupant
+
+
+def replay(file, crew, log, occupant):
+    try:
+        found = replayed(heard(file, crew), log)
+        return (0, found.done, found.held), found.record()
+    except Refused as refused:
+        return refused.numbers, occupant
+
+
 CALLS = {
     "record_at": record_at,
     "check": check,
@@ -811,6 +880,7 @@ CALLS = {
     "write": write,
     "report": report,
     "chart": chart,
+    "replay": replay,
 }
 
 
@@ -2018,6 +2088,151 @@ def charts(seed, n):
 
 
 # ---------------------------------------------------------------------------------------------------------------------
+# Replays
+
+
+def event(tick, action):
+    return bytes([EVENT, tick % ROUND // 256, tick % 256, action])
+
+
+STEPS = [0, 1, 255, 256, 257, 32766, 32767]  # the longest that does not go back among them
+
+
+def some_step(rng):
+    return rng.choice(STEPS) if rng.random() < 0.4 else rng.randrange(WENT_BACK)
+
+
+def some_action(rng, study, state):
+    """Mostly one in force: often one that may be done, or one that its own variable allows."""
+    usables = [number for number in range(len(study.actions)) if usable(study, number)]
+    there = [number for number in usables if state[study.actions[number].variable] == study.actions[number].pre]
+    ready = [number for number in there if may_be_done(state, study.actions[number])]
+    barred = [number for number in there if number not in ready]
+    return rng.choice(rng.choices([ready, barred, usables], [6, 3, 2])[0] or usables or [0])
+
+
+def some_events(rng, study, many):
+    """Events as (tick, action), of which a part is held; the ticks roll over now and then, or at each event."""
+    state, tick, events = start_state(study), rng.randrange(ROUND), []
+    long_steps = rng.random() < 0.1
+    for _ in range(many):
+        number = some_action(rng, study, state)
+        events.append((tick, number))
+        if usable(study, number) and may_be_done(state, study.actions[number]):
+            state = done(state, study.actions[number])
+        tick = (tick + (WENT_BACK - 1 if long_steps else some_step(rng))) % ROUND
+    return events
+
+
+def planned_events(rng, study):
+    """A straight plan if there is one, now and then done twice: of the second time a part may be held."""
+    tick, events = rng.randrange(ROUND), []
+    for number in steps_that_run(rng, study) * rng.choice([1, 1, 2]):
+        events.append((tick, number))
+        tick = (tick + some_step(rng)) % ROUND
+    return events
+
+
+def log_of(events):
+    return b"".join(event(*one) for one in events)
+
+
+def other_kind(rng, one, study):
+    return bytes([rng.choice([0, 1, 2, 6, 15, 17, 255, rng.randrange(256)])]) + one[1:]
+
+
+def action_not_there(rng, one, study):
+    return one[:3] + bytes([rng.choice([min(len(study.actions), 255), 255, rng.randrange(256)])])
+
+
+def action_out_of_force(rng, one, study):
+    barred = [number for number in range(len(study.actions)) if not usable(study, number)]
+    return one[:3] + bytes([rng.choice(barred)]) if barred else one
+
+
+def another_tick(rng, one, study):
+    """It may go back: the tick is half a round away, or just not, or anywhere."""
+    away = rng.choice([WENT_BACK, WENT_BACK - 1, WENT_BACK + 1, ROUND - 1, rng.randrange(ROUND)])
+    return event(256 * one[1] + one[2] + away, one[3])
+
+
+LOG_FAULTS = [other_kind, action_not_there, action_not_there, action_out_of_force, action_out_of_force, another_tick, another_tick]
+
+
+def damaged_log(rng, log, study):
+    """One or two faults in one event, now and then in two; or the log is cut, or has bytes behind it, or another byte anywhere."""
+    for _ in range(rng.choice([1, 1, 1, 2])):
+        at = EVENT_LENGTH * rng.randrange(len(log) // EVENT_LENGTH) if len(log) >= EVENT_LENGTH else 0
+        one = log[at : at + EVENT_LENGTH]
+        for fault in rng.sample(LOG_FAULTS, rng.choice([1, 1, 2, 3])) if len(one) == EVENT_LENGTH else []:
+            one = fault(rng, one, study)
+        log = log[:at] + one + log[at + EVENT_LENGTH :]
+    way = rng.random()
+    if way < 0.2:
+        return log[: rng.randint(0, len(log))]
+    if way < 0.3:
+        return log + rng.choice([bytes([EVENT]), b"\0", bytes([EVENT, 0, 0]), rng.randbytes(rng.randint(1, 5))])
+    return rng.choice(BYTE_DAMAGE)(rng, log) if log and way < 0.4 else log
+
+
+def replay_of(rng, study, log, file, crew):
+    if rng.random() < 0.4:
+        log = damaged_log(rng, log, study)
+    return "replay", (file, crew, log, rng.randbytes(OCCUPANT_LENGTH))
+
+
+def some_log(rng, study):
+    planned = planned_events(rng, study) if rng.random() < 0.25 else []
+    return log_of(planned or some_events(rng, study, rng.choice([0, 1, 2, 3, rng.randint(4, 12), rng.randint(4, 40)])))
+
+
+def replay_on_small(rng):
+    study = small_study(rng)
+    return replay_of(rng, study, some_log(rng, study), *placed(rng, study))
+
+
+def replay_on_middling(rng):
+    study = rng.choices([middling, large_study], [4, 1])[0](rng)
+    return replay_of(rng, study, some_log(rng, study), *placed_large(rng, study))
+
+
+def replay_at_limits(rng):
+    """16,383 to 16,386 events, of which the last may be at fault, cut or of another kind; the sum may be the largest."""
+    study = rng.choices([small_study, large_study], [3, 1])[0](rng)
+    many = rng.choice([MOST_EVENTS - 1, MOST_EVENTS, MOST_EVENTS, MOST_EVENTS + 1, MOST_EVENTS + 1, MOST_EVENTS + 2])
+    some = some_events(rng, study, rng.randint(1, 60))
+    step = rng.choice([0, 1, 4097, WENT_BACK - 1])
+    log = log_of((step * index, some[index % len(some)][1]) for index in range(many))
+    if rng.random() < 0.5:
+        last = log[-EVENT_LENGTH:]
+        last = rng.choice([last[: rng.randint(1, 3)], *(fault(rng, last, study) for fault in LOG_FAULTS)])
+        log = log[:-EVENT_LENGTH] + last
+    return "replay", (*placed_large(rng, study), log, rng.randbytes(OCCUPANT_LENGTH))
+
+
+def replay_of_any_bytes(rng):
+    """Any bytes as a log, some of them with kinds that are right."""
+    study = small_study(rng)
+    log = bytearray(rng.randbytes(rng.randint(0, 40)))
+    if rng.random() < 0.6:
+        log[::EVENT_LENGTH] = bytes([EVENT]) * len(log[::EVENT_LENGTH])
+    return "replay", (*placed(rng, study), bytes(log), rng.randbytes(OCCUPANT_LENGTH))
+
+
+def replay_on_damaged(rng):
+    study = small_study(rng)
+    return replay_of(rng, study, some_log(rng, study), file_that_does_not_load(rng), some_crew(rng))
+
+
+def replays(seed, n):
+    """Yields n replays, the same for the same seed and n. Of 1,000 some 10 are of logs at the limit."""
+    rng = random.Random(seed)
+    makers = [replay_on_small, replay_on_middling, replay_at_limits, replay_of_any_bytes, replay_on_damaged]
+    for _ in range(n):
+        yield rng.choices(makers, [760, 30, 10, 50, 150])[0](rng)
+
+
+# ---------------------------------------------------------------------------------------------------------------------
 # Self-test
 
 PORTER = bytes.fromhex(
@@ -2536,6 +2751,7 @@ ANSWERS_TO_MEET = {
     "write": {0, 3, 4, 5, 6, 7, 13, 21},
     "report": set(range(9)) | {13, 18, 19, 21, 22},
     "chart": set(range(9)) | {10, 11, 12, 14, 19, 21, 22, 25, 26, 27, 28},
+    "replay": set(range(9)) | {14, 19, 20, 21, 22, 23},
 }
 
 
@@ -2626,6 +2842,103 @@ def test_charts_by_orders(seed, n):
     return f"{n} small charts, every order of {n - longer} tried: agreed ({tally})"
 
 
+def worked_replays():
+    """Replays worked by hand: the file, the log in hexadecimal, the three numbers, the record or None where it is as lent. The porter's
+    actions: 0 takes the pass, 1 fetches the cart, 2 rides up and wants pass and ride, 3 books the ride and wants pass and cart, 4 hands
+    the pass in."""
+    record = lambda state, ticks=0, *waits: bytes(state).ljust(32, b"\0") + ticks.to_bytes(4, "little") + bytes([*(waits or (0, 0, 0)), 0])
+    yield PORTER, "", (0, 0, 0), record((0, 0, 0))
+    yield PORTER, "10000001", (0, 1, 0), record((0, 1, 0))
+    yield PORTER, "10ffff01", (0, 1, 0), record((0, 1, 0))  # the first step is 0
+    yield PORTER, "10000001 10000100 10000303 10000602", (0, 4, 0), record((1, 2, 1), 6)
+    yield PORTER, "10000502", (0, 0, 1), record((0, 0, 0), 0, 1, 1, 1)  # the own variable first
+    yield PORTER, "10000503", (0, 0, 1), record((0, 0, 0), 0, 1, 0, 1)  # the lowest of two conditions
+    yield PORTER, "10000501 10000602", (0, 1, 1), record((0, 1, 0), 1, 1, 0, 1)
+    yield PORTER, "10000501 10000600 10000702", (0, 2, 1), record((1, 1, 0), 2, 1, 2, 1)
+    yield PORTER, "10000500 10000603 10000701 10000903", (0, 3, 1), record((1, 1, 1), 4)  # held, then done
+    yield PORTER, "10000000 10000104 10000200 10000304", (0, 4, 0), record((0, 0, 0), 3)  # values again
+    yield PORTER, "10000000 10000100", (0, 1, 1), record((1, 0, 0), 1, 1, 0, 0)
+    yield PORTER, "10000000 10000000", (0, 1, 1), record((1, 0, 0), 0, 1, 0, 0)  # a step of 0
+    yield PORTER, "10000000 107fff04", (0, 2, 0), record((0, 0, 0), 32767)
+    yield PORTER, "10000000 10800004", (23, 4, 0), None
+    yield PORTER, "10000000 10ffff04", (23, 4, 0), None
+    yield PORTER, "10fffe00 10000304", (0, 2, 0), record((0, 0, 0), 5)  # round the roll
+    yield PORTER, "10ffff00 107ffe04", (0, 2, 0), record((0, 0, 0), 32767)
+    yield PORTER, "10ffff00 107fff04", (23, 4, 0), None
+    yield PORTER, "10ffff00 107fff00", (23, 4, 0), None  # an event that could not be done either
+    yield PORTER, "00", (2, 0, 0), None
+    yield PORTER, "10", (1, 0, 0), None
+    yield PORTER, "10000000 1000", (1, 4, 0), None
+    yield PORTER, "10000000 100000", (1, 4, 0), None
+    yield PORTER, "10000000 0f0000", (2, 4, 0), None  # 2 before 1
+    yield PORTER, "10000000 06", (2, 4, 0), None
+    yield PORTER, "10000005", (14, 0, 0), None
+    yield PORTER, "10000000 10ffff05", (14, 4, 0), None  # 14 before 23
+    yield PORTER, "11000005", (2, 0, 0), None
+    many, held = "10000000" * MOST_EVENTS, record((1, 0, 0), 0, 1, 0, 0)
+    yield PORTER, many, (0, 1, 16383), held
+    yield PORTER, many + "10800000", (19, 65536, 0), None
+    yield PORTER, many + "10ffff05", (19, 65536, 0), None  # 19 before 14 and 23
+    yield PORTER, many + "100000", (1, 65536, 0), None  # 1 before 19
+    yield PORTER, many + "ff", (2, 65536, 0), None
+    yield PORTER[:55], "ff", (1, 55, 0), None
+    night = file_of(Study([2], [Action(0, 0, 1), Action(0, 1, 0, [], 2)], [(0, 1)], 1))
+    yield night, "10000000 10000001", (20, 4, 0), None
+    yield night, "10000000 10ffff01", (20, 4, 0), None  # 20 before 23
+    yield night, "10000000 10ffff02", (14, 4, 0), None
+    rolling = "".join(event(32767 * index, 4 * (index % 2)).hex() for index in range(MOST_EVENTS))
+    yield PORTER, rolling, (0, MOST_EVENTS, 0), record((0, 0, 0), 32767 * 16383)
+
+
+def inputs_of_worked_replay(file, log):
+    return file, 0, bytes.fromhex(log), bytes(range(200, 200 + OCCUPANT_LENGTH))
+
+
+def test_worked_replays():
+    cases = list(worked_replays())
+    for *call, numbers, record in cases:
+        inputs = inputs_of_worked_replay(*call)
+        given = replay(*inputs)
+        assert given == (numbers, record or inputs[-1]), f"replay {call}: {given} and not {numbers}, {record and record.hex()}"
+    return f"{len(cases)} replays worked by hand: agreed"
+
+
+def with_ticks_moved(log, amount):
+    """The same log, each tick of a whole event moved by an amount round the roll."""
+    parts = [log[at : at + EVENT_LENGTH] for at in range(0, len(log), EVENT_LENGTH)]
+    moved = [one[:1] + event(256 * one[1] + one[2] + amount, one[3])[1:] if len(one) == EVENT_LENGTH else one for one in parts]
+    return b"".join(moved)
+
+
+def test_replays(seed, n):
+    """Of random logs: where no event is held, the actions run from the start to the state left; ticks that are all moved by one
+    amount, another record lent and an empty rest alter nothing; what is refused is refused with anything behind it; each event
+    of one more is done or held."""
+    rng, straight, refused = random.Random(seed), 0, 0
+    for _, (file, crew, log, lent) in itertools.islice((call for call in replays(seed, 2 * n) if len(call[1][2]) < 1000), n):
+        numbers, left = replay(file, crew, log, lent)
+        assert replay(file, crew, with_ticks_moved(log, 40000), lent) == (numbers, left), (file, log)
+        other = rng.randbytes(OCCUPANT_LENGTH)
+        assert replay(file, crew, log, other) == (numbers, other if numbers[0] else left), (file, log)
+        if numbers[0]:
+            at_event = numbers[0] in (14, 20, 23) or numbers[0] == 2 and numbers[1] % EVENT_LENGTH == 0
+            assert not at_event or replay(file, crew, log + rng.randbytes(9), lent) == (numbers, lent), (file, log)
+            refused += 1
+            continue
+        assert sum(numbers[1:]) * EVENT_LENGTH == len(log)
+        study, actions = heard(file, crew), log[3::EVENT_LENGTH]
+        state = start_state(study)
+        for number in actions:
+            state = done(state, study.actions[number]) if may_be_done(state, study.actions[number]) else state
+        assert bytes(state) == left[: len(state)] and not any(left[len(state) : STATE_ROOM])
+        if numbers[2] == 0 and actions:
+            straight += 1
+            said = run(file_of(replace(study, tasks=[(start, q) for (start, _), q in zip(study.tasks, state)])), 0, actions, bytes(32))[0]
+            assert said[0] in (0, 16), said  # a run stops where a value comes again
+    assert straight > n // 20 and refused > n // 5, (straight, refused)
+    return f"{n} replays, {straight} of them without an event held, {refused} refused: as they should be"
+
+
 def test_reports():
     """The porter with 64 seeds: two plans, which differ in their first two steps."""
     numbers, left = report(PORTER, 0, 1, 64, b"\xaa" * 30)
@@ -2665,6 +2978,7 @@ def answers_to(file, crew, lists):
         run(file, crew, steps, bytes(40)),
         report(file, crew, 1, 2, bytes(5000)),
         chart(file, crew, steps, pairs),
+        replay(file, crew, log_of(enumerate(steps + pairs)), bytes(range(OCCUPANT_LENGTH))),
     ]
 
 
@@ -2695,15 +3009,18 @@ def test_crews(seed, files):
     return f"{files} files of one to eight crews, each crew as alone and where crews are exchanged: agreed"
 
 
+KINDS_OF_CALLS = {calls: 1, writes: 5, reports: 20, charts: 10, replays: 10}  # a part of so many
+
+
 def test_calls(seed, n):
     """Every call can be answered; a refusal alters nothing; each call meets each of its answers, and all limits are met."""
     seen = {name: Counter() for name in CALLS}
     longest_file = longest_plan = longest_written = 0
-    drawn_edges, most_charted = set(), (0, 0)
-    for name, inputs in itertools.chain(calls(seed, n), writes(seed, n // 5), reports(seed, n // 20), charts(seed, n // 10)):
+    drawn_edges, most_charted, most_events = set(), (0, 0), 0
+    for name, inputs in itertools.chain(*(make(seed, n // part) for make, part in KINDS_OF_CALLS.items())):
         numbers, buffer = answer(name, inputs)
         seen[name][numbers[0]] += 1
-        if name in ("plan", "plan_seeded", "run", "draw", "write", "report"):
+        if name in ("plan", "plan_seeded", "run", "draw", "write", "report", "replay"):
             assert len(buffer) == len(inputs[-1]) and (numbers[0] == 0 or buffer == inputs[-1])
         if name == "draw":
             drawn_edges.add((inputs[0], inputs[1], len(inputs[2])))
@@ -2711,6 +3028,8 @@ def test_calls(seed, n):
             longest_written = max(longest_written, numbers[1] if numbers[0] == 0 else 0)
         elif name == "chart":
             most_charted = max(most_charted, numbers[1:] if numbers[0] == 0 else (0, 0))
+        elif name == "replay":
+            most_events = max(most_events, sum(numbers[1:]) if numbers[0] == 0 else 0)
         elif name != "record_at" and numbers[0] == 0:
             longest_file = max(longest_file, len(inputs[0]))
             if name == "check":
@@ -2723,8 +3042,9 @@ def test_calls(seed, n):
     assert set(draw_edges()) <= drawn_edges
     assert (longest_file, longest_plan, longest_written) == (LONGEST_FILE, 256, LONGEST_FILE), (longest_file, longest_plan)
     assert list(calls(seed, 300)) == list(calls(seed, 300)) and list(writes(seed, 300)) == list(writes(seed, 300))
-    assert most_charted == (256, MOST_PAIRS), most_charted
-    assert list(reports(seed, 100)) == list(reports(seed, 100)) and list(charts(seed, 100)) == list(charts(seed, 100))
+    assert most_charted == (256, MOST_PAIRS) and most_events == MOST_EVENTS, (most_charted, most_events)
+    for make in (reports, charts, replays):
+        assert list(make(seed, 100)) == list(make(seed, 100)), make
     answered = sum(sum(tally.values()) for tally in seen.values())
     lines = [f"{answered} calls answered, each answer of each call met, a file of {longest_file} bytes and a plan of 256 steps too"]
     for name in CALLS:
@@ -2769,6 +3089,8 @@ def self_test():
         (test_reports, ()),
         (test_worked_charts, ()),
         (test_charts_by_orders, (1, 2000)),
+        (test_worked_replays, ()),
+        (test_replays, (1, 2000)),
         (test_crews, (1, 400)),
         (test_limits, (1,)),
         (test_both_ways, (1, 5000)),

@@ -1,12 +1,13 @@
 """Checks studies/: each NAME.bin is what bin/make-study makes of NAME.study, and each NAME.out what the oracle says that the
 program prints for NAME.bin, each NAME.explained what the explainer of tests/explain says; each NAME.names and NAME.why has these
 lines with the table's words; each NAME.charted is what the oracle says of NAME.chart, in words; each NAME.compared leads from one
-plan to another by straight plans, in as few exchanges as there are pairs that differ; and bin/make-study itself: its mistakes, the
+plan to another by straight plans, in as few exchanges as there are pairs that differ; each NAME.replayed is what the oracle says of
+NAME.log, event by event, in words; and bin/make-study itself: its mistakes, the
 refusals that it shows, --names and --show. It proves and builds the writer where that is still to be done. The last line is
 'N passed, M failed'.
 
     python3 tests/studies_check.py             checks
-    python3 tests/studies_check.py --write     writes every file but tables and charts anew, then checks
+    python3 tests/studies_check.py --write     writes every file but tables, charts and logs anew, then checks
 """
 
 import importlib.util
@@ -38,6 +39,7 @@ FIRST_LINES = {
     "hotel-crews": "plan 8",
     "night-porter": "plan 6",
     "courier": "plan 6",
+    "porter-morning": "plan 9",
     "no-walk": "refused 10 1 255",
     "cart-back": "refused 10 1 0",
     "kerbside": "refused 10 0 255",
@@ -68,6 +70,9 @@ CHARTED = {"porter": ("porter", 0), "hotel": ("hotel", 0), "hotel-short": ("hote
 
 # The studies of which what bin/compare prints is stored: the crew, and the two seeds.
 COMPARED = {"porter": (0, 1, 3), "hotel": (0, 1, 2), "hotel-crews": (1, 1, 2)}
+
+# The studies with an access log of crew 0: what bin/replay --names prints of each is stored.
+REPLAYED = ["porter-morning"]
 
 # The studies whose explanations are stored in words too: each kind of line is among them.
 WHY = ["porter", "night-porter", "no-walk", "cart-back", "wrong-badge", "doorman", "hotel-crews"]
@@ -385,6 +390,43 @@ def compared(name):
     return text
 
 
+def log_lines(name):
+    """The events of a log, as (tick, name of the action)."""
+    lines = [line.split("#")[0].split() for line in stored(name, ".log").decode().splitlines()]
+    return [(int(tick), action) for tick, action in filter(None, lines)]
+
+
+def log_bytes(name):
+    actions = [action.split(":")[0] for action in actions_in_words(name)]
+    return oracle.log_of((tick, actions.index(action)) for tick, action in log_lines(name))
+
+
+def in_state(name, variable, value):
+    names = named(name, "vq", [variable, value])
+    return f"{names['v']} = {names['q']}"
+
+
+def replayed(name):
+    """What bin/replay --names prints of a log that is not refused: each event by the oracle's record of the log cut behind it; nothing
+    is shared with bin/replay."""
+    data, log, actions = stored(name, ".bin"), log_bytes(name), actions_in_words(name)
+    (_, done, held), record = oracle.replay(data, 0, log, bytes(40))
+    lines = [f"replayed {done} {held}  {done + held} events: {done} done, {held} held"]
+    for index, (tick, action) in enumerate(log_lines(name)):
+        _, after = oracle.replay(data, 0, log[: 4 * index + 4], bytes(40))
+        number = log[4 * index + 3]
+        if after[36]:
+            lines.append(f"{tick} {number} held {after[37]} {after[38]}  {action} waits for {in_state(name, after[37], after[38])}")
+        else:
+            lines.append(f"{tick} {number} done  {actions[number]}")
+    variables = len(oracle.heard(data, 0).counts)
+    values = ", ".join(in_state(name, v, record[v]) for v in range(variables))
+    ticks = record[32] + 256 * record[33]
+    assert not record[36], f"{name}.log does not end idle"
+    lines.append(f"end {ticks} idle  idle after {ticks} ticks, with {values}")
+    return "".join(f"{line}\n" for line in lines)
+
+
 def refusal_of(name):
     """What bin/make-study says of a table that it makes no study of."""
     said = command(STUDIES / f"{name}.study", "-o", "-")
@@ -424,6 +466,8 @@ def write_all():
         (STUDIES / f"{name}.charted").write_text(charted(name))
     for name in COMPARED:
         (STUDIES / f"{name}.compared").write_text(compared(name))
+    for name in REPLAYED:
+        (STUDIES / f"{name}.replayed").write_text(replayed(name))
 
 
 def check_study(name, first_line):
@@ -467,6 +511,28 @@ def check_compared(name):
     expect(steps == second, f"{name}.compared does not lead to the second plan")
 
 
+def check_replayed(name):
+    expect(stored(name, ".replayed").decode() == replayed(name), f"{name}.replayed is not what the oracle says of the log")
+
+
+def check_logs():
+    """What the logs are there for, and the program's own example."""
+    name = "porter-morning"
+    lines = stored(name, ".replayed").decode().splitlines()
+    held = [line for line in lines if " held " in line.split("  ")[0]]
+    expect(len(held) == 1 and "waits for lift = " in held[0], f"held are {held}")
+    ticks = [tick for tick, _ in log_lines(name)]
+    expect(any(after < before for before, after in zip(ticks, ticks[1:])), "the ticks do not roll over")
+    actions = log_bytes(name)[3::4]
+    expect(len(set(actions)) < len(actions), "no action is done twice")
+    log = oracle.log_of([(480, 1), (482, 3), (485, 0), (490, 3), (505, 2)])
+    example = ROOT / "crates" / "trail"
+    given = bytes(8) + len(log).to_bytes(4, "big") + log + oracle.PORTER
+    expect((example / "stdin").read_bytes() == given, "crates/trail/stdin is not the porter's log")
+    records = [oracle.replay(oracle.PORTER, 0, log[:at], bytes(40))[1] for at in range(0, len(log) + 1, 4)]
+    expect((example / "stdout").read_bytes() == b"replayed 4 1\n" + b"".join(records), "crates/trail/stdout is not its trail")
+
+
 def check_charts():
     """What the charts are there for: the partner's has fewer pairs than the study has direct orders, and the short one lacks a
     single order, by rule (c), of two actions of different variables of which neither sets what the other wants."""
@@ -494,6 +560,7 @@ def check_folder():
     named |= {f"{name}.names" for name in IN_WORDS} | {f"{name}.variety" for name in VARIED} | {f"{name}.why" for name in WHY}
     named |= {name + suffix for name in CHARTED for suffix in (".chart", ".charted")}
     named |= {f"{name}.compared" for name in COMPARED}
+    named |= {name + suffix for name in REPLAYED for suffix in (".log", ".replayed")}
     there = {path.name for path in STUDIES.iterdir()} - {"README.md"}
     expect(named == there, f"studies/ lacks {sorted(named - there)} or has {sorted(there - named)} too many")
 
@@ -560,7 +627,7 @@ def check_explanations():
 
 
 def check_pages():
-    """The explanations, the charts and the comparisons that the pages show are those of the studies."""
+    """The explanations, the charts, the comparisons and the replays that the pages show are those of the studies."""
     for page, names in {"README.md": ["ring"], "docs/EXPLAIN.md": ["porter", "doorman"]}.items():
         shown = re.findall(r"```\n\$ bin/explain studies/(\S+)\.study\n(.*?)```", (ROOT / page).read_text(), re.DOTALL)
         expect(shown == [(name, why(name)) for name in names], f"{page} does not show what bin/explain prints of {names}")
@@ -572,6 +639,8 @@ def check_pages():
         shown = re.findall(r"```\n\$ bin/compare studies/(\S+)\.study (\d+) (\d+)\n(.*?)```", (ROOT / page).read_text(), re.DOTALL)
         wanted = [(name, *map(str, COMPARED[name][1:]), compared(name)) for name in names]
         expect(shown == wanted, f"{page} does not show what bin/compare prints of {names}")
+    shown = re.findall(r"```\n\$ bin/replay --names studies/(\S+)\.study studies/\S+\.log\n(.*?)```", (ROOT / "docs/REPLAY.md").read_text(), re.DOTALL)
+    expect(shown == [(name, replayed(name)) for name in REPLAYED], "docs/REPLAY.md does not show what bin/replay prints")
 
 
 def check_night_porter():
@@ -732,6 +801,9 @@ def main():
         attempt(check_charted, name)
     for name in COMPARED:
         attempt(check_compared, name)
+    for name in REPLAYED:
+        attempt(check_replayed, name)
+    attempt(check_logs)
     attempt(check_charts)
     attempt(check_folder)
     attempt(check_particulars)

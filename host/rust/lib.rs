@@ -26,6 +26,29 @@ pub struct Record {
     pub next: u64,
 }
 
+/// Somebody whose access log was replayed, as the 40 bytes of a record say.
+#[derive(Clone, Copy, Debug, PartialEq, Eq)]
+pub struct Occupant {
+    /// The value of each variable; 0 past the file's last.
+    pub state: [u8; 32],
+    /// The sum of all events' steps, in ticks.
+    pub sum: u32,
+    /// The variable and the value that the last event waits for; none if it was done, or there was none.
+    pub waits_for: Option<(u8, u8)>,
+}
+
+impl From<[u8; 40]> for Occupant {
+    fn from(record: [u8; 40]) -> Occupant {
+        let mut state = [0; 32];
+        state.copy_from_slice(&record[..32]);
+        Occupant {
+            state,
+            sum: u32::from_le_bytes([record[32], record[33], record[34], record[35]]),
+            waits_for: (record[36] == 1).then_some((record[37], record[38])),
+        }
+    }
+}
+
 mod exported {
     use super::{Answer, Record};
 
@@ -76,6 +99,14 @@ mod exported {
             actions_len: usize,
             pairs: *const u8,
             pairs_len: usize,
+        ) -> Answer;
+        pub fn marrowkite_replay(
+            file: *const u8,
+            file_len: usize,
+            crew: u64,
+            log: *const u8,
+            log_len: usize,
+            occupant: *mut u8,
         ) -> Answer;
         pub fn marrowkite_write(
             situation: u8,
@@ -222,6 +253,22 @@ pub fn chart(file: &[u8], crew: u64, actions: &[u8], pairs: &[u8]) -> Answer {
     }
 }
 
+/// Replays an access log from a crew's start, events of four bytes, the kind 16, a tick of two bytes, most significant first, and an
+/// action: 1 to 8 and 21, then 22, then event by event 2, 1, 19, 14, 20, 23, first being the event's offset in the log. Done: first is
+/// how many events were done, second how many were held; the record is the occupant, which `Occupant::from` reads.
+pub fn replay(file: &[u8], crew: u64, log: &[u8], occupant: &mut [u8; 40]) -> Answer {
+    unsafe {
+        exported::marrowkite_replay(
+            file.as_ptr(),
+            file.len(),
+            crew,
+            log.as_ptr(),
+            log.len(),
+            occupant.as_mut_ptr(),
+        )
+    }
+}
+
 #[cfg(test)]
 mod tests {
     extern crate std;
@@ -353,6 +400,53 @@ mod tests {
         assert_eq!(chart(&PORTER[..55], 0, &[], &[]), answer(1, 55, 0));
     }
 
+    /// What a log of (tick, action) leaves of the porter, and its answer.
+    fn replayed(events: &[(u16, u8)]) -> (Answer, [u8; 40]) {
+        let (mut log, mut record) = (std::vec::Vec::new(), [0xaa; 40]);
+        for &(tick, action) in events {
+            let [high, low] = tick.to_be_bytes();
+            log.extend([16, high, low, action]);
+        }
+        (replay(&PORTER, 0, &log, &mut record), record)
+    }
+
+    fn occupant(values: [u8; 3], sum: u32, waits_for: Option<(u8, u8)>) -> Occupant {
+        let mut state = [0; 32];
+        state[..3].copy_from_slice(&values);
+        Occupant {
+            state,
+            sum,
+            waits_for,
+        }
+    }
+
+    #[test]
+    fn a_log_is_replayed() {
+        let (answered, record) = replayed(&[(65530, 1), (2, 3), (4, 0), (1004, 3)]);
+        assert_eq!(answered, answer(0, 3, 1));
+        assert_eq!(Occupant::from(record), occupant([1, 1, 1], 1010, None));
+        let (answered, record) = replayed(&[(0, 1), (32767, 0), (32767, 2)]);
+        assert_eq!(answered, answer(0, 2, 1));
+        assert_eq!(Occupant::from(record), occupant([1, 1, 0], 32767, Some((2, 1))));
+        let (answered, record) = replayed(&[]);
+        assert_eq!(answered, answer(0, 0, 0));
+        assert_eq!(Occupant::from(record), occupant([0, 0, 0], 0, None));
+    }
+
+    #[test]
+    fn a_log_is_refused_and_the_record_stays() {
+        assert_eq!(replayed(&[(0, 0), (32768, 4)]), (answer(23, 4, 0), [0xaa; 40]));
+        assert_eq!(replayed(&[(0, 0), (0, 5)]), (answer(14, 4, 0), [0xaa; 40]));
+        assert_eq!(replayed(&[(0, 0); 16385]), (answer(19, 65536, 0), [0xaa; 40]));
+        assert_eq!(replayed(&[(0, 0); 16384]).0, answer(0, 1, 16383));
+        let mut record = [0xaa; 40];
+        assert_eq!(replay(&PORTER, 0, &[16, 0, 0], &mut record), answer(1, 0, 0));
+        assert_eq!(replay(&PORTER, 0, &[0], &mut record), answer(2, 0, 0));
+        assert_eq!(replay(&PORTER[..55], 0, &[0], &mut record), answer(1, 55, 0));
+        let by_night = replay(&night_porter(2), 0, &[16, 0, 0, 0], &mut record);
+        assert_eq!((by_night, record), (answer(20, 0, 0), [0xaa; 40]));
+    }
+
     /// The porter, and behind it a crew that brings the pass back and fetches the cart.
     fn two_crews() -> [u8; 74] {
         let mut file = [0; 74];
@@ -395,6 +489,7 @@ mod tests {
             assert_eq!(run(&two_crews(), crew, &[9], &mut []), answer(22, crew, 0));
             assert_eq!(report(&two_crews(), crew, 0, 0, &mut buffer), answer(22, crew, 0));
             assert_eq!(chart(&two_crews(), crew, &[9], &[0]), answer(22, crew, 0));
+            assert_eq!(replay(&two_crews(), crew, &[0], &mut [0; 40]), answer(22, crew, 0));
         }
         assert_eq!(plan_seeded(&two_crews()[..73], 2, &mut buffer), answer(1, 73, 0));
         assert_eq!(buffer, [0xaa; 4]);

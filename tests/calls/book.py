@@ -6,6 +6,17 @@ import sys
 BUFFER = b"\xaa" * 272
 BEHIND = 8  # so many bytes behind those that are lent are printed too
 IN_A_LINE = 96  # of the file's bytes, at most
+BACK = (1, 2, 4)  # how far back a byte may stand that comes again
+WORTH = 64  # so many bytes that come again are not written out
+MOST_AGAIN = 65535
+
+
+def coming_again(file, at, back):
+    """How many bytes from a place on are each as the one that stands so far before it."""
+    end = at
+    while end < min(len(file), at + MOST_AGAIN) and file[end] == file[end - back]:
+        end += 1
+    return end - at
 
 
 class Book:
@@ -29,12 +40,21 @@ class Book:
             sys.exit(f"{self.name}: document 01 says {says}, and not {found}")
 
     def use(self, file):
-        """The calls that follow get this file. Of one that begins as the file before does, what follows is given."""
+        """The calls that follow get this file. Of one that begins as the file before does, what follows is given; bytes that come again
+        and again are given once."""
         if file == self.file:
             return
-        kept = len(os.path.commonprefix([self.file, file]))
-        for at in range(kept, len(file), IN_A_LINE) or [kept]:
-            self.input.append(f"file {at} {file[at : at + IN_A_LINE].hex()}".rstrip())
+        at = len(os.path.commonprefix([self.file, file]))
+        if at == len(file):
+            self.input.append(f"file {at}")
+        while at < len(file):
+            line = file[at : at + IN_A_LINE]
+            self.input.append(f"file {at} {line.hex()}")
+            at += len(line)
+            back, many = max(((back, coming_again(file, at, back)) for back in BACK), key=lambda one: one[1])
+            if many >= WORTH:
+                self.input.append(f"again {back} {many}")
+                at += many
         self.file = file
 
     def ask(self, call, *answer):

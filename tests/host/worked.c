@@ -1,5 +1,5 @@
 /* Document 01's seventeen worked cases through the exported calls, one line each, and what the cases leave open: calls one
- * after another, calls on several threads, single records, the generator's check number, files from lists, charts, crews.
+ * after another, calls on several threads, single records, the generator's check number, files from lists, charts, crews, logs.
  * Every buffer is lent between guard bytes. Each check below looks at all numbers, all bytes of the buffer, the inputs and
  * the guard bytes; a refused call has to leave the buffer as it was. */
 #include "lend.h"
@@ -176,6 +176,55 @@ static int chart(bytes file, bytes actions, bytes pairs, marrowkite_answer wante
   return chart_for(file, 0, actions, pairs, wanted);
 }
 
+/* An occupant's record: of the porter's three variables, of the sum two bytes, and whether it waits, for which variable and value. */
+#define OCCUPANT(s0, s1, s2, low, high, ...)                                                                            \
+  ((bytes){(const uint8_t[40]){s0, s1, s2, [32] = low, high, 0, 0, __VA_ARGS__}, 40})
+#define IDLE 0, 0, 0
+#define WAITS(variable, value) 1, variable, value
+#define EVENT(tick, action) 16, (tick) / 256, (tick) % 256, action
+
+static int replay_for(bytes file, uint64_t crew, bytes log, marrowkite_answer wanted, bytes left) {
+  lent f = lend(file), l = lend(log), occupant = lend_room(sizeof(marrowkite_occupant));
+  return same(marrowkite_replay(f.at, f.len, crew, l.at, l.len, (marrowkite_occupant *)occupant.at), wanted) & kept(f, file) &
+         kept(l, log) & holds_only(occupant, left);
+}
+
+static int replay(bytes file, bytes log, marrowkite_answer wanted, bytes left) { return replay_for(file, 0, log, wanted, left); }
+
+/* 16,384 events, the pass taken and handed in, each 32,767 ticks after the one before; one more; or a part of one more. */
+static int long_logs(void) {
+  enum { MOST = 16384, LEN = 4 * MOST };
+  uint8_t log[LEN + 4];
+  for (unsigned k = 0; k <= MOST; k++) {
+    const uint8_t event[] = {EVENT(k * 32767 % 65536, k % 2 ? 4 : 0)};
+    memcpy(log + 4 * k, event, sizeof event);
+  }
+  marrowkite_occupant occupant;
+  int holds = same(marrowkite_replay(porter_of_the_document, sizeof porter_of_the_document, 0, log, LEN, &occupant), DONE(MOST, 0));
+  uint32_t sum = 32767u * (MOST - 1);
+  for (int k = 0; k < 4; k++) holds &= say(occupant.sum[k] == (uint8_t)(sum >> 8 * k), "another sum");
+  holds &= replay(PORTER, (bytes){log, LEN + 4}, REFUSED(19, LEN, 0)) & replay(PORTER, (bytes){log, LEN + 3}, REFUSED(1, LEN, 0));
+  log[LEN] = 6;
+  return holds & replay(PORTER, (bytes){log, LEN + 3}, REFUSED(2, LEN, 0));
+}
+
+static int replays(void) {
+  return say(sizeof(marrowkite_occupant) == 40, "another record") & replay(PORTER, NOTHING, DONE(0, 0), OCCUPANT(0, 0, 0, 0, 0, IDLE)) &
+         replay(PORTER, BYTES(EVENT(7, 1), EVENT(9, 0), EVENT(300, 3), EVENT(310, 2)), DONE(4, 0), OCCUPANT(1, 2, 1, 47, 1, IDLE)) &
+         replay(PORTER, BYTES(EVENT(7, 1), EVENT(9, 3)), DONE(1, 1), OCCUPANT(0, 1, 0, 2, 0, WAITS(0, 1))) &
+         replay(PORTER, BYTES(EVENT(7, 1), EVENT(9, 2)), DONE(1, 1), OCCUPANT(0, 1, 0, 2, 0, WAITS(0, 1))) &
+         replay(PORTER, BYTES(EVENT(7, 2)), DONE(0, 1), OCCUPANT(0, 0, 0, 0, 0, WAITS(1, 1))) &
+         replay(PORTER, BYTES(EVENT(0, 1), EVENT(1, 3), EVENT(2, 0), EVENT(3, 3)), DONE(3, 1), OCCUPANT(1, 1, 1, 3, 0, IDLE)) &
+         replay(PORTER, BYTES(EVENT(0, 0), EVENT(1, 4), EVENT(2, 0)), DONE(3, 0), OCCUPANT(1, 0, 0, 2, 0, IDLE)) &
+         replay(PORTER, BYTES(EVENT(65535, 0), EVENT(1, 4)), DONE(2, 0), OCCUPANT(0, 0, 0, 2, 0, IDLE)) &
+         replay(PORTER, BYTES(EVENT(40000, 0), EVENT(7231, 4)), DONE(2, 0), OCCUPANT(0, 0, 0, 255, 127, IDLE)) &
+         replay(PORTER, BYTES(EVENT(40000, 0), EVENT(7232, 4)), REFUSED(23, 4, 0)) &
+         replay(PORTER, BYTES(EVENT(5, 0), EVENT(4, 5)), REFUSED(14, 4, 0)) &
+         replay(PORTER, BYTES(EVENT(5, 0), 15, 0, 4, 5), REFUSED(2, 4, 0)) & replay(PORTER, BYTES(16, 0), REFUSED(1, 0, 0)) &
+         replay(NIGHT_PORTER(2, 1), BYTES(EVENT(5, 1), EVENT(4, 0)), REFUSED(20, 4, 0)) &
+         replay(PORTER_WITHOUT_SEED, BYTES(0), REFUSED(5, 50, 0)) & long_logs();
+}
+
 /* The porter as crew 0, and a crew 1 that brings the pass back and fetches the cart. */
 #define TWO_CREWS                                                                                                       \
   BYTES(PORTER_TABLE, TASK(0, 0, 1), TASK(1, 0, 2), TASK(2, 0, 1), SEED_1, 9, TASK(0, 1, 0), TASK(1, 0, 1), TASK(2, 0, 0), \
@@ -187,7 +236,7 @@ static int chart(bytes file, bytes actions, bytes pairs, marrowkite_answer wante
 static int not_there(bytes file, uint64_t crew) {
   return plan_for(file, crew, NOTHING, 0, REFUSED(22, crew, 0)) & seeded_for(file, crew, 8, REFUSED(22, crew, 0)) &
          run_for(file, crew, BYTES(255), 0, REFUSED(22, crew, 0)) & report_for(file, crew, 0, 0, 0, REFUSED(22, crew, 0)) &
-         chart_for(file, crew, TOO_LONG(257), NOTHING, ANSWER(22, crew, 0));
+         chart_for(file, crew, TOO_LONG(257), NOTHING, ANSWER(22, crew, 0)) & replay_for(file, crew, BYTES(0), REFUSED(22, crew, 0));
 }
 
 static int crews(void) {
@@ -198,7 +247,9 @@ static int crews(void) {
          run_for(TWO_CREWS, 1, BYTES(4, 1), 8, DONE(3, 0), BYTES(0, 1, 0)) &
          run_for(TWO_CREWS, 0, BYTES(4, 1), 8, REFUSED(15, 0, 0)) &
          report_for(TWO_CREWS, 1, 1, 1, 4, REFUSED(13, 15, 0)) & chart_for(TWO_CREWS, 1, BYTES(1, 4), NOTHING, DONE(2, 0)) &
-         chart_for(TWO_CREWS, 0, BYTES(1, 4), NOTHING, ANSWER(25, 0, 0)) & not_there(TWO_CREWS, 2) & not_there(PORTER, 1) &
+         chart_for(TWO_CREWS, 0, BYTES(1, 4), NOTHING, ANSWER(25, 0, 0)) &
+         replay_for(TWO_CREWS, 1, BYTES(EVENT(0, 4), EVENT(0, 1)), DONE(2, 0), OCCUPANT(0, 1, 0, 0, 0, IDLE)) &
+         replay_for(TWO_CREWS, 0, BYTES(EVENT(0, 4), EVENT(0, 1)), DONE(1, 1), OCCUPANT(0, 1, 0, 0, 0, IDLE)) & not_there(TWO_CREWS, 2) & not_there(PORTER, 1) &
          not_there(TWO_CREWS, 8) & not_there(TWO_CREWS, 255) & not_there(TWO_CREWS, 1ul << 32) & not_there(TWO_CREWS, ~0ul) &
          check(SECOND_CREW_WITHOUT_SEED, ANSWER(3, 68, 0)) & seeded_for(SECOND_CREW_WITHOUT_SEED, 0, 8, REFUSED(3, 68, 0)) &
          seeded_for(SECOND_CREW_WITHOUT_SEED, 9, 8, REFUSED(3, 68, 0)) &
@@ -257,6 +308,7 @@ static int in_a_row(void) {
     holds &= plan_seeded(PORTER, 8, DONE(4, 0), BYTES(1, 0, 3, 2));
     holds &= run(PORTER, BYTES(0, 4), 8, REFUSED(16, 1, 0));
     holds &= run(PORTER, BYTES(1, 0, 3, 2), 8, DONE(3, 0), BYTES(1, 2, 1));
+    holds &= replay(PORTER, BYTES(EVENT(0, 1), EVENT(0, 3)), DONE(1, 1), OCCUPANT(0, 1, 0, 0, 0, WAITS(0, 1)));
     holds &= check(HORSE_BREEDER, DONE(7, 3));
     holds &= check(TRACE_COMES_ROUND, DONE(2, 1));
     holds &= draw(1, 5, 8, DONE(984943658, 0), BYTES(3, 0, 4, 1, 2));
@@ -383,6 +435,7 @@ int main(void) {
                        chart(PORTER, TOO_LONG(256), TOO_LONG(8192), ANSWER(25, 0, 0)) &
                        chart(RING_WANTING(1), BYTES(0, 1), BYTES(0, 1), ANSWER(12, 0, 0)) &
                        chart(PORTER_WITHOUT_SEED, NOTHING, NOTHING, ANSWER(5, 50, 0)));
+  report("access logs", replays());
   report("crews", crews());
   report("single records", record_at(PORTER, 18, (marrowkite_record){0, 3, 19, 2, 21}) &
                                record_at(PORTER, 55, (marrowkite_record){0, 6, 56, 0, 56}) &

@@ -87,6 +87,21 @@ fn put(into: &mut [u8], n: usize, byte: u8) -> usize {
     n
 }
 
+// Puts the byte that stands so far back behind the first n. Answers the place after it.
+pub(crate) fn again(into: &mut [u8], n: usize, back: usize) -> usize {
+    if back < 1 {
+        return n;
+    }
+    if n < back {
+        return n;
+    }
+    if into.len() < n {
+        return n;
+    }
+    let byte = into[n - back];
+    put(into, n, byte)
+}
+
 pub(crate) fn front(s: &[u8], n: usize) -> &[u8] {
     if s.len() < n {
         return s;

@@ -21,11 +21,17 @@ use Rattle.varied.proofs.Settled.{report-settles}
 use Rattle.charts.specs.Charts.{chartOf}
 use Rattle.charts.specs.Answers.{ChartsFile}
 use Rattle.charts.proofs.Settled.{chart-settled}
+use Rattle.replays.specs.Replay.{replayed, replayAnswer, replayLeaves}
+use Rattle.replays.proofs.Refusals.{replayed-refused}
+use Rattle.replays.proofs.Settled.{replay-settles}
 use Rattle.demands.specs.Words.{LoadsAs, LoadsFor}
 use Rattle.demands.specs.Crews.{Agree, Alike, AlikeOne, AnsweredAlike, RefusedWith, alone}
 
 abbrev RunOn : Said Study → List ℕ → List ℕ → Allowing
 RunOn said list before = Exactly (runAnswer (ran said (length before) list)) (runLeaves (ran said (length before) list) before)
+
+abbrev ReplayOn : Said Study → List ℕ → List ℕ → Allowing
+ReplayOn said log before = Exactly (replayAnswer (replayed said log)) (replayLeaves (replayed said log) before)
 
 -- ---- what a file says to a crew
 
@@ -78,6 +84,7 @@ agreeing-are-answered-alike {f} {g} {c} {d} a =
           said-alike (λ s. RunOn s list before) e (λ r r′ after after′ p q. (p .0 ∙ sym (q .0), p .1 ∙ sym (q .1)));
       report = λ first n before. said-alike (λ s. ReportsOn s first n before) e (report-settles f c first n before);
       chart = λ actions pairs. said-alike-one (λ s. ChartsFile s (chartOf actions pairs)) e (chart-settled f c actions pairs);
+      replay = λ log before. said-alike (λ s. ReplayOn s log before) e (replay-settles f c log before);
     }
 
 -- ---- refusals before planning, running and reporting
@@ -92,6 +99,7 @@ refused-with file c number place e = record {
   run = λ list before. rw (e, ran-refused number place (length before) list) (only-exactly (refusal number place) before);
   report = λ first n before. rw e (only-exactly (refusal number place) before);
   chart = λ actions pairs r. rw e ((λ p. p), (λ p. p));
+  replay = λ log before. rw (e, replayed-refused number place log) (only-exactly (refusal number place) before);
 }
 
 -- 22, first the crew's number

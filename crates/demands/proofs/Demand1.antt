@@ -17,6 +17,8 @@ use Rattle.draw.specs.Draw.{refused as notDrawn}
 use Rattle.runs.specs.Run.{Ran, endsIn, stops, ran, runAnswer, runLeaves, RunAllows}
 use Rattle.planning.specs.Planning.{PlansFile, PlanAllows}
 use Rattle.planning.specs.Seeded.{seedRanks, SeededAllows}
+use Rattle.replays.specs.Replay.{ReplayAllows}
+use Rattle.replays.proofs.Settled.{refusal-as-lent}
 use Rattle.planning.proofs.Exact.{refusal-alters-nothing}
 use Rattle.varied.specs.Report.{ReportAllows}
 use Rattle.varied.proofs.Settled.{report-unaltered}
@@ -60,3 +62,7 @@ refused-write-alters-nothing = write-unaltered
 pub refused-report-alters-nothing :
     (file : List ℕ) (crew first n : ℕ) (before : List ℕ) → RefusalAltersNothing (ReportAllows file crew first n before) before
 refused-report-alters-nothing = report-unaltered
+
+pub refused-replay-alters-nothing :
+    (file : List ℕ) (crew : ℕ) (log before : List ℕ) → RefusalAltersNothing (ReplayAllows file crew log before) before
+refused-replay-alters-nothing = refusal-as-lent

@@ -13,6 +13,7 @@ use Rattle.planning.specs.Planning.{PlanAllows}
 use Rattle.planning.specs.Seeded.{SeededAllows}
 use Rattle.varied.specs.Report.{ReportAllows}
 use Rattle.charts.specs.Answers.{ChartAllows}
+use Rattle.replays.specs.Replay.{ReplayAllows}
 use Rattle.demands.specs.Words.{LoadsAs}
 
 -- both files load and have the crew, c of the one and d of the other; they agree on situation, variables, actions and that crew's tasks and seed
@@ -45,6 +46,7 @@ pub record AnsweredAlike (f : List ℕ) (c : ℕ) (g : List ℕ) (d : ℕ) : Typ
   pub run : (list before : List ℕ) → Alike (RunAllows f c list before) (RunAllows g d list before)
   pub report : (first n : ℕ) (before : List ℕ) → Alike (ReportAllows f c first n before) (ReportAllows g d first n before)
   pub chart : (actions pairs : List ℕ) → AlikeOne (ChartAllows f c actions pairs) (ChartAllows g d actions pairs)
+  pub replay : (log before : List ℕ) → Alike (ReplayAllows f c log before) (ReplayAllows g d log before)
 
 -- every call that names the crew gives this answer and no other, and the buffer is as it was
 pub record RefusedWith (file : List ℕ) (crew : ℕ) (answer : Answer) : Type 0 where
@@ -53,6 +55,7 @@ pub record RefusedWith (file : List ℕ) (crew : ℕ) (answer : Answer) : Type 0
   pub run : (list before : List ℕ) → AllowsOnly (RunAllows file crew list before) answer before
   pub report : (first n : ℕ) (before : List ℕ) → AllowsOnly (ReportAllows file crew first n before) answer before
   pub chart : (actions pairs : List ℕ) (r : Answer) → ChartAllows file crew actions pairs r ↔ (r ≡ answer)
+  pub replay : (log before : List ℕ) → AllowsOnly (ReplayAllows file crew log before) answer before
 
 -- a study as the roster of one crew
 abbrev pub alone : Study → Roster

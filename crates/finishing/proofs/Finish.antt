@@ -6,29 +6,37 @@ use mathlib.Core.List.{List, [], _++_}
 use Prim.Native.Nat.{ℕ, _≤_, _<_}
 use native.Mathlib.Omega.{arith}
 use lib.ListN.{length, take, drop}
-use lib.Seq.{getD-take, length-take-le, ext-getD}
+use lib.Seq.{length-take-le}
 use Rattle.answer.specs.Answers.{done, refusal}
 use Rattle.answer.specs.declared.Answer.{Answer}
 use Rattle.study.specs.Study.{Study}
 use Rattle.study.specs.Reading.{says, refused, readingFor}
 use Rattle.plans.specs.Plans.{startState}
-use Rattle.plans.proofs.States.{start-value, start-length}
 use Rattle.tables.specs.Rows.{Row, startColumn, Begins}
 use Rattle.runs.specs.Run.{Ran, endsIn, stops, Failing, none, fails, away, atGoal, ran, runOn, runAnswer, runLeaves, RunAllows}
 use Rattle.runs.proofs.Outcomes.{Outcome, outcome}
 use Rattle.runs.proofs.Answers.{ran-short, ran-fits, stop-number}
-use Rattle.stepping.specs.declared.Fails.the-variants.{Nowhere, At}
+use Rattle.barring.specs.Telling.{Prepared, shown}
+use Rattle.barring.proofs.Loaded.{few, starts-shown}
 use Rattle.stepping.specs.declared.Turn.the-variants.{On}
-use Rattle.stepping.specs.Stepping.{Small, Went, shown, failsOf}
-use Rattle.finishing.specs.Finishing.{Prepared, Ends}
+use Rattle.stepping.specs.Stepping.{Small, Went}
+use Rattle.finishing.specs.declared.Fails.the-variants.{Nowhere, At}
+use Rattle.finishing.specs.Finishing.{Ends, failsOf}
 use Rattle.finishing.proofs.Goals.{away-shown}
-use Rattle.stepping.proofs.Turns.{is-at, is-nowhere}
 
 pub file-refused :
     (file : List ℕ) (crew : ℕ) (plan before : List ℕ) {answer : Answer} {number place : ℕ}
     → readingFor file crew ≡ refused number place → answer ≡ refusal number place → RunAllows file crew plan before answer before
 unfolding ran
 file-refused file crew plan before e given = rw e (given, refl)
+
+is-at : (f : Failing) (v : ℕ) → At v ≡ failsOf f → f ≡ fails v
+is-at none v e = cc
+is-at (fails w) v e = cc
+
+is-nowhere : (f : Failing) → Nowhere ≡ failsOf f → f ≡ none
+is-nowhere none e = refl
+is-nowhere (fails w) e = cc
 
 -- a refusal is not 0
 stopped-not-0 : (t : Study) (plan : List ℕ) (a : Answer) → runOn t [] (startState t) 0 plan ≡ stops a → a .number ≢ 0
@@ -44,26 +52,13 @@ module _
     {file : List ℕ} {n actions : ℕ} {acts vars : List Row} {t : Study}
     (prepared : Prepared file n actions acts vars t)
   where
-    pub few : n ≤ 32
-    few = omega (arith, prepared .counted, prepared .ready .lawful .few-variables)
-
     -- the table holds the starts
     module _ {first : List ℕ} (begins : Begins n (startColumn vars) first) where
-      starts-shown : shown t first ≡ startState t
-      starts-shown =
-          let law = prepared .ready .lawful in
-          let long = length-take-le (length (t .counts)) first (omega (arith, begins .long, law .few-variables)) in
-          ext-getD 0 (shown t first) (startState t) (omega (arith, long, start-length t, law .a-task-each))
-          (λ v h.
-          let there : v < n = omega (arith, long, h, prepared .counted) in
-          getD-take (length (t .counts)) first v 0 (omega (arith, long, h))
-          ∙ begins .start v there ∙ prepared .tasks .start v there ∙ sym (start-value t v))
-
       pub small-starts : Small n first
       small-starts =
           let law = prepared .ready .lawful in
           record {
-            few = few;
+            few = few prepared;
             value =
                 λ v h.
                 let has = law .has-start v (omega (arith, prepared .tasks .count)) in
@@ -73,13 +68,13 @@ module _
       module _ (plan : List ℕ) where
         pub stopped : {table : List ℕ} {answer : Answer} → runOn t [] (shown t first) 0 plan ≡ stops answer → Ends t plan table answer
         stopped {answer = answer} went =
-            let e = rw starts-shown at went in
+            let e = rw (starts-shown prepared begins) at went in
             record { answers = rw e; shows = λ z. absurd (stopped-not-0 t plan answer e z) }
 
         module _ (table : List ℕ) (went : Went t plan first table On) where
           ran-to : (f : Failing) → away table 0 (t .tasks) ≡ f → runOn t [] (startState t) 0 plan ≡ atGoal (shown t table) f
           ran-to f e =
-              (rw starts-shown at (went .0))
+              (rw (starts-shown prepared begins) at (went .0))
               ∙ (rw (away-shown (length (t .counts)) table 0 (t .tasks) (omega (arith, prepared .ready .lawful .a-task-each)), e))
 
           pub off-goal : {answer : Answer} {v : ℕ} → At v ≡ failsOf (away table 0 (t .tasks)) → answer ≡ refusal 17 v → Ends t plan table answer
@@ -110,6 +105,6 @@ module _
         pub handed-over : answer .number ≡ 0 → {after : List ℕ} → (n ≤ length table → after ≡ take n table ++ drop n before) → RunAllows file crew plan before answer after
         handed-over z copied =
             let shows = ends .shows z in
-            let fits : n ≤ length table = omega (arith, shows .1, few) in
+            let fits : n ≤ length table = omega (arith, shows .1, few prepared) in
             let long : length (shown t table) ≡ n = length-take-le (length (t .counts)) table (omega (arith, fits, prepared .counted)) ∙ sym (prepared .counted) in
             rw ran-is (ends .answers, rw (shows .0, long, ← prepared .counted) (copied fits))

@@ -14,8 +14,8 @@ use Rattle.study.specs.Study.{Task, taskAt, noTask}
 use Rattle.plans.specs.Plans.{State, valueOf}
 use Rattle.tables.specs.Tables.{HoldsTasks}
 use Rattle.runs.specs.Run.{fails, away}
-use Rattle.stepping.specs.declared.Fails.the-variants.{Nowhere, At}
-use Rattle.stepping.specs.Stepping.{failsOf}
+use Rattle.finishing.specs.declared.Fails.the-variants.{Nowhere, At}
+use Rattle.finishing.specs.Finishing.{failsOf}
 
 away-at :
     (s : State) (tasks : List Task) (v : ℕ) → v < length tasks

@@ -7,16 +7,15 @@ use lib.ListN.{length}
 use Rattle.answer.specs.declared.Answer.{Answer}
 use Rattle.study.specs.Study.{Study}
 use Rattle.plans.specs.Plans.{startState}
-use Rattle.tables.specs.Tables.{HoldsTasks}
-use Rattle.tables.specs.Rows.{Row, startColumn, goalColumn}
-use Rattle.runs.specs.Run.{endsIn, runOn, runAnswer}
-use Rattle.stepping.specs.Stepping.{Ready, shown}
+use Rattle.runs.specs.Run.{Failing, none, fails, endsIn, runOn, runAnswer}
+use Rattle.barring.specs.Telling.{shown}
+use Rattle.finishing.specs.declared.Fails.{Fails}
+use Rattle.finishing.specs.declared.Fails.the-variants.{Nowhere, At}
 
--- all that was loaded: the actions, the starts and the goals
-pub record Prepared (file : List ℕ) (n actions : ℕ) (acts vars : List Row) (t : Study) : Type 0 where
-  pub ready : Ready file actions acts t
-  pub counted : n ≡ length (t .counts)
-  pub tasks : HoldsTasks n (startColumn vars) (goalColumn vars) (t .tasks)
+-- the definition's answer as the code gives it
+abbrev pub failsOf : Failing → Fails
+failsOf none = Nowhere
+failsOf (fails v) = At v
 
 -- the answer of a run from the start; after answer 0 the table shows the end state
 pub record Ends (t : Study) (plan table : List ℕ) (answer : Answer) : Type 0 where

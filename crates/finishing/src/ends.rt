@@ -7,8 +7,8 @@ ghost use Rattle.study.specs.Study.{Task};
 ghost use Rattle.tables.specs.Tables.{HoldsTasks};
 ghost use Rattle.tables.specs.Rows.{startColumn, goalColumn};
 ghost use Rattle.runs.specs.Run.{away as Run·away};
-ghost use Rattle.stepping.specs.Stepping.{failsOf};
-use stepping::Fails;
+ghost use Rattle.finishing.specs.Finishing.{failsOf};
+use crate::Fails;
 
 // The lowest variable away from its goal.
 pub(crate) fn away(n: usize, state: &[u8; 32], vars: &[[u8; 3]; 32]) -> Fails

@@ -9,11 +9,17 @@ ghost use Rattle.study.specs.Study.{Study};
 ghost use Rattle.runs.specs.Run.{RunAllows};
 ghost use Rattle.tables.specs.Tables.{Loads};
 ghost use Rattle.tables.specs.Rows.{startColumn, seenAll, Begins};
-ghost use Rattle.finishing.specs.Finishing.{Prepared, Ends};
+ghost use Rattle.barring.specs.Telling.{Prepared};
+ghost use Rattle.finishing.specs.Finishing.{Ends};
 use answer::Answer;
-use stepping::Fails;
 use stepping::Turn;
 use tables::Loaded;
+
+// The first variable that is not at its goal, if there is one.
+pub enum Fails {
+    Nowhere,
+    At(u64),
+}
 
 // An answer whose second number is 0.
 fn answer_of(number: u64, first: u64) -> Answer

@@ -8,6 +8,7 @@ ghost use Rattle.planning.specs.Seeded.{SeededAllows};
 ghost use Rattle.spelling.specs.Write.{WriteAllows};
 ghost use Rattle.varied.specs.Report.{ReportAllows};
 ghost use Rattle.charts.specs.Answers.{ChartAllows};
+ghost use Rattle.replays.specs.Replay.{ReplayAllows};
 ghost use Rattle.marrowkite.specs.Told.{RecordAllows};
 use answer::Answer;
 use records::Found;
@@ -131,4 +132,16 @@ pub extern "C" fn marrowkite_chart(file: &[u8], crew: u64, actions: &[u8], pairs
     ensures { λ r. ⌜ ChartAllows (now (file .entry)) crew (now (actions .entry)) (now (pairs .entry)) r ⌝ }
 {
     charter::chart(file, crew, actions, pairs)
+}
+
+#[no_mangle]
+pub extern "C" fn marrowkite_replay(
+    file: &[u8],
+    crew: u64,
+    log: &[u8],
+    occupant: &mut [u8; 40],
+) -> Answer
+    ensures { λ r. ⌜ ReplayAllows (now (file .entry)) crew (now (log .entry)) (now (occupant .entry)) r (now (occupant .exit)) ⌝ }
+{
+    replaying::replay(file, crew, log, occupant)
 }

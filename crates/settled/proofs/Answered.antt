@@ -21,6 +21,8 @@ use Rattle.varied.specs.Report.{ReportAllows}
 use Rattle.varied.proofs.Settled.{report-answers}
 use Rattle.charts.specs.Answers.{ChartAllows}
 use Rattle.charts.proofs.Settled.{chart-answered as charts-answer}
+use Rattle.replays.specs.Replay.{ReplayAllows}
+use Rattle.replays.proofs.Settled.{replay-answers}
 use Rattle.marrowkite.specs.Told.{told, RecordAllows}
 
 -- what is given by equations is allowed
@@ -59,3 +61,6 @@ report-answered = report-answers
 
 pub chart-answered : (file : List ℕ) (crew : ℕ) (actions pairs : List ℕ) → AnswersOne (ChartAllows file crew actions pairs)
 chart-answered = charts-answer
+
+pub replay-answered : (file : List ℕ) (crew : ℕ) (log before : List ℕ) → Answers (ReplayAllows file crew log before)
+replay-answered = replay-answers

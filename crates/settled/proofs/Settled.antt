@@ -19,6 +19,8 @@ use Rattle.varied.specs.Report.{ReportAllows}
 use Rattle.varied.proofs.Settled.{report-settles}
 use Rattle.charts.specs.Answers.{ChartAllows}
 use Rattle.charts.proofs.Settled.{chart-settled as charts-settle}
+use Rattle.replays.specs.Replay.{ReplayAllows}
+use Rattle.replays.proofs.Settled.{replay-settles}
 use Rattle.marrowkite.specs.Told.{RecordAllows}
 
 -- what is given by equations is settled
@@ -54,3 +56,6 @@ report-settled = report-settles
 
 pub chart-settled : (file : List ℕ) (crew : ℕ) (actions pairs : List ℕ) → SettlesOne (ChartAllows file crew actions pairs)
 chart-settled = charts-settle
+
+pub replay-settled : (file : List ℕ) (crew : ℕ) (log before : List ℕ) → Settles (ReplayAllows file crew log before)
+replay-settled = replay-settles

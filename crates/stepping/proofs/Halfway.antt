@@ -11,7 +11,8 @@ use Rattle.study.specs.Study.{Study}
 use Rattle.plans.specs.Plans.{State}
 use Rattle.runs.specs.Run.{stops, runOn}
 use Rattle.stepping.specs.declared.Turn.the-variants.{On, Stops}
-use Rattle.stepping.specs.Stepping.{Stage, Takes, Went, shown}
+use Rattle.barring.specs.Telling.{shown}
+use Rattle.stepping.specs.Stepping.{Stage, Takes, Went}
 
 pub record Halfway (t : Study) (plan first : List ℕ) (k : ℕ) (table marks : List ℕ) : Type 0 where
   pub past : List State

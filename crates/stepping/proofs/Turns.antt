@@ -1,6 +1,6 @@
 -- One step of a run, as the tables tell it, is one step of the definition.
 -- Assumes nothing.
-use mathlib.Core.Path.{_≡_, refl, sym, _∙_}
+use mathlib.Core.Path.{_≡_, sym, _∙_}
 use mathlib.Core.Bool.{true, false, not}
 use mathlib.Core.List.{List, _∷_}
 use Prim.Native.Nat.{ℕ, _+_, _*_, _≤_, _<_}
@@ -13,13 +13,18 @@ use Rattle.answer.specs.Answers.{three, refusal}
 use Rattle.study.specs.Study.{Action, Study, inForce, actionAt}
 use Rattle.lawful.specs.Lawful.{LawfulAction}
 use Rattle.plans.specs.Plans.{State, Usable, after}
-use Rattle.runs.specs.Run.{Failing, none, fails, stops, barred, held, runOn}
+use Rattle.runs.specs.Run.{none, fails, stops, barred, held, runOn}
+use Rattle.replays.specs.Replay.{lacks}
 use Rattle.tables.specs.Rows.{Row, outColumn}
 use Rattle.tables.specs.declared.Act.{Act}
-use Rattle.stepping.specs.declared.Fails.the-variants.{Nowhere, At}
+use Rattle.barring.specs.declared.Want.{Want}
+use Rattle.barring.specs.declared.Stance.the-variants.{Idle, Waits}
+use Rattle.barring.specs.Stances.{stanceOf}
+use Rattle.barring.specs.Telling.{Tells, Ready, shown}
+use Rattle.barring.proofs.Searches.{lacks-shown}
+use Rattle.barring.proofs.Stances.{free, bars}
 use Rattle.stepping.specs.declared.Turn.the-variants.{On, Stops}
-use Rattle.stepping.specs.Stepping.{Tells, Ready, Stage, Takes, shown, failsOf}
-use Rattle.stepping.proofs.Searches.{barred-shown}
+use Rattle.stepping.specs.Stepping.{Stage, Takes}
 use Rattle.stepping.proofs.Marks.{marked-more}
 
 module _ (t : Study) (past : List State) (s : State) (k i : ℕ) (rest : List ℕ) where
@@ -48,14 +53,6 @@ module _ (t : Study) (past : List State) (s : State) (k i : ℕ) (rest : List �
         → runOn t past s k (i ∷ rest) ≡ runOn t (s ∷ past) (after s a) (k + 1) rest
     unfolding runOn
     run-step e b = rw (lt-leb (length (t .actions)) i (u .there), u .in-force, e, b)
-
-pub is-at : (f : Failing) (v : ℕ) → At v ≡ failsOf f → f ≡ fails v
-is-at none v e = cc
-is-at (fails w) v e = cc
-
-pub is-nowhere : (f : Failing) → Nowhere ≡ failsOf f → f ≡ none
-is-nowhere none e = refl
-is-nowhere (fails w) e = cc
 
 -- an action that is there, as its row tells it
 module _ {file : List ℕ} {actions : ℕ} {acts : List Row} {t : Study} (ready : Ready file actions acts t) (i : ℕ) (there : i < actions) where
@@ -94,10 +91,10 @@ module _
       pub takes-20 : eqb (getD (outColumn acts) i 0) 0 ≡ false → Takes t past k i table table marks (Stops (refusal 20 k))
       takes-20 out rest = run-out t past (shown t table) k i rest (omega (arith, ready .count)) (sym (ready .force i there) ∙ out)
 
-      barred-is : barred (shown t table) (actionAt (t .actions) i) ≡ barred table (actionAt (t .actions) i)
-      barred-is =
+      lacks-is : lacks (shown t table) (actionAt (t .actions) i) ≡ lacks table (actionAt (t .actions) i)
+      lacks-is =
           let a = lawful ready i there in
-          barred-shown (length (t .counts)) table (actionAt (t .actions) i) (a .has-pre .there) (λ j h. a .conditions .has j h .there)
+          lacks-shown (length (t .counts)) table (actionAt (t .actions) i) (a .has-pre .there) (λ j h. a .conditions .has j h .there)
 
       -- it is in force
       module _ (force : eqb (getD (outColumn acts) i 0) 0 ≡ true) where
@@ -105,16 +102,20 @@ module _
         usable = record { there = omega (arith, ready .count); in-force = sym (ready .force i there) ∙ force }
 
         pub takes-15 :
-            {v : ℕ} → At v ≡ failsOf (barred table (actionAt (t .actions) i))
-            → Takes t past k i table table marks (Stops (three 15 k v))
-        takes-15 {v} e rest = run-barred t past (shown t table) k i rest usable v (barred-is ∙ is-at _ v e)
+            {w : Want} → Waits w ≡ stanceOf (lacks table (actionAt (t .actions) i))
+            → Takes t past k i table table marks (Stops (three 15 k (w .var)))
+        takes-15 {w} e rest =
+            run-barred t past (shown t table) k i rest usable (w .var) (bars (shown t table) (actionAt (t .actions) i) w (rw lacks-is e))
 
         -- nothing bars it
         module _
-            (free : Nowhere ≡ failsOf (barred table (actionAt (t .actions) i)))
+            (nothing : Idle ≡ stanceOf (lacks table (actionAt (t .actions) i)))
             {act : Act} (tells : Tells file act (actionAt (t .actions) i))
             {v p : ℕ} (var : v ≡ act .var) (post : p ≡ act .post)
           where
+            unbarred : barred (shown t table) (actionAt (t .actions) i) ≡ none
+            unbarred = free (shown t table) (actionAt (t .actions) i) (rw lacks-is nothing)
+
             told : eqb (getD marks (16 * v + p) 0) 0 ≡ not (held (shown t table ∷ past) (actionAt (t .actions) i .var) (actionAt (t .actions) i .post))
             told =
                 stage .marked .tells v p (var-small ready i there tells var post) (post-small ready i there tells var post)
@@ -122,7 +123,7 @@ module _
 
             pub takes-16 : (getD marks (16 * v + p) 0 ≡ 0 → ⊥) → Takes t past k i table table marks (Stops (three 16 k v))
             takes-16 o rest =
-                run-held t past (shown t table) k i rest usable (barred-is ∙ is-nowhere _ free) (not-false _ (sym told ∙ ne-eqb _ 0 o))
+                run-held t past (shown t table) k i rest usable unbarred (not-false _ (sym told ∙ ne-eqb _ 0 o))
                 ∙ (rw (var-is ready i there tells var post))
 
             shown-set : shown t (set table v p) ≡ set (shown t table) v p
@@ -143,7 +144,7 @@ module _
             takes-on e =
                 rw (← post) (
                   λ rest.
-                      run-step t past (shown t table) k i rest usable (barred-is ∙ is-nowhere _ free) (not-true _ (sym told ∙ eq-eqb _ 0 e))
+                      run-step t past (shown t table) k i rest usable unbarred (not-true _ (sym told ∙ eq-eqb _ 0 e))
                       ∙ (rw (shown-set, var-is ready i there tells var post, post-is ready i there tells var post)),
                   stage-more,
                 )

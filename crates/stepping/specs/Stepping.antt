@@ -1,47 +1,17 @@
--- How the rows of the actions, the state and the marks answer to the steps of a run.
+-- How the state and the marks answer to the steps of a run.
 -- Assumes nothing.
 use Prim.Native.Nat.{ℕ, _+_, _*_, _≤_, _<_}
 use mathlib.Core.Path.{_≡_}
 use mathlib.Core.Bool.{not}
 use mathlib.Core.List.{List, [], _∷_}
 use lib.Dec.{eqb}
-use lib.ListN.{length, getD, take}
-use Rattle.study.specs.Study.{Action, Study, inForce, actionAt, conditionAt}
-use Rattle.lawful.specs.Lawful.{Lawful}
+use lib.ListN.{length, getD}
+use Rattle.study.specs.Study.{Study}
 use Rattle.plans.specs.Plans.{State}
-use Rattle.tables.specs.Tables.{HoldsConditions}
-use Rattle.tables.specs.Rows.{Row, outColumn, OpensAction}
-use Rattle.tables.specs.declared.Act.{Act}
-use Rattle.runs.specs.Run.{stops, Failing, none, fails, held, away, atGoal, runOn}
-use Rattle.stepping.specs.declared.Fails.{Fails}
-use Rattle.stepping.specs.declared.Fails.the-variants.{Nowhere, At}
+use Rattle.runs.specs.Run.{stops, held, away, atGoal, runOn}
+use Rattle.barring.specs.Telling.{shown}
 use Rattle.stepping.specs.declared.Turn.{Turn}
 use Rattle.stepping.specs.declared.Turn.the-variants.{On, Stops}
-
--- the definition's answer as the code gives it
-abbrev pub failsOf : Failing → Fails
-failsOf none = Nowhere
-failsOf (fails v) = At v
-
--- an opened row tells an action, whose variables are small enough for the table of the state
-pub record Tells (file : List ℕ) (act : Act) (a : Action) : Type 0 where
-  pub var : act .var ≡ a .var
-  pub pre : act .pre ≡ a .pre
-  pub post : act .post ≡ a .post
-  pub conditions : HoldsConditions file (act .place) (act .many) (a .conditions)
-  pub small : a .var < 32
-  pub smalls : (k : ℕ) → k < length (a .conditions) → conditionAt (a .conditions) k .var < 32
-
--- the rows tell the actions of a lawful study
-pub record Ready (file : List ℕ) (actions : ℕ) (acts : List Row) (t : Study) : Type 0 where
-  pub lawful : Lawful t
-  pub count : actions ≡ length (t .actions)
-  pub action : (i : ℕ) {act : Act} → i < actions → OpensAction acts i act → Tells file act (actionAt (t .actions) i)
-  pub force : (i : ℕ) → i < actions → eqb (getD (outColumn acts) i 0) 0 ≡ inForce (t .situation) (actionAt (t .actions) i)
-
--- the state that a table of 32 entries holds
-abbrev pub shown : Study → List ℕ → State
-shown t table = take (length (t .counts)) table
 
 -- the first n variables, with values below 16, at 16 * v + q: not 0 where v has had the value q in one of the states
 pub record Marked (n : ℕ) (marks : List ℕ) (states : List State) : Type 0 where

@@ -1,19 +1,13 @@
 // The steps of a run, on the rows of the actions.
-mod bars;
 mod steps;
 
 ghost use mathlib.Core.Path.{_≡_};
 ghost use mathlib.Core.List.{[], _∷_};
 ghost use lib.ListN.{length, take};
 ghost use Rattle.study.specs.Study.{Study};
-ghost use Rattle.stepping.specs.Stepping.{Ready, Clear, Marked, Small, Went};
+ghost use Rattle.barring.specs.Telling.{Ready};
+ghost use Rattle.stepping.specs.Stepping.{Clear, Marked, Small, Went};
 use answer::Answer;
-
-// The first variable that is not at the value asked of it, if there is one.
-pub enum Fails {
-    Nowhere,
-    At(u64),
-}
 
 // What a step, or a list of steps, leads to.
 pub enum Turn {

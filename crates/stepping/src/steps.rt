@@ -5,11 +5,11 @@ ghost use Rattle.answer.specs.Answers.{three};
 ghost use Rattle.study.specs.Study.{Study};
 ghost use Rattle.plans.specs.Plans.{State};
 ghost use Rattle.stepping.specs.declared.Turn.the-variants.{Stops};
-ghost use Rattle.stepping.specs.Stepping.{Ready, Stage, Takes, Went};
-use crate::Fails;
+ghost use Rattle.barring.specs.Telling.{Ready};
+ghost use Rattle.stepping.specs.Stepping.{Stage, Takes, Went};
 use crate::Turn;
-use crate::bars;
 use answer::Answer;
+use barring::Stance;
 
 // The refusal of step k.
 fn stops(number: u64, k: usize, second: u64) -> Turn
@@ -46,8 +46,8 @@ fn take_step(
         return stops(20, k, 0);
     }
     let act = tables::action_at(acts, i);
-    if let Fails::At(v) = bars::barred(file, act, state) {
-        return stops(15, k, v);
+    if let Stance::Waits(want) = barring::barred(file, act, state) {
+        return stops(15, k, want.var as u64);
     }
     let v = tables::wide(act.var);
     let mark = 16 * v + tables::wide(act.post);

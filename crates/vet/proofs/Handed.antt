@@ -9,7 +9,7 @@ use lib.Seq.{drop-drop}
 use Rattle.answer.specs.declared.Answer.{Answer}
 use Rattle.charts.specs.Answers.{ChartAllows}
 use Rattle.vet.specs.Input.{numberAt, behindHead, crewIn, actionsIn, pairsIn, fileIn}
-use Rattle.vet.proofs.Parts.{least, take-same, drop-same, part, rest}
+use Rattle.parts.proofs.Parts.{least, take-same, drop-same, part, rest}
 
 -- the bytes from a place up to another
 abbrev between : ℕ → ℕ → List ℕ → List ℕ

@@ -36,6 +36,15 @@ line-requires c κs = search needs
 edit-requires : tie.Need-edit-requires Inv-loop μ-loop
 edit-requires c κs = search needs
 
+number-requires : tie.Need-number-requires Inv-loop μ-loop
+number-requires c κs = search needs
+
+number-requires-2 : tie.Need-number-requires-2 Inv-loop μ-loop
+number-requires-2 c κs = search needs
+
+repeat-requires : tie.Need-repeat-requires Inv-loop μ-loop
+repeat-requires c κs = search needs
+
 call-requires : tie.Need-call-requires Inv-loop μ-loop
 call-requires c κs = search needs
 
@@ -65,6 +74,9 @@ lines-spec =
     word-requires
     line-requires
     edit-requires
+    number-requires
+    number-requires-2
+    repeat-requires
     call-requires
     add-at
     loop-less

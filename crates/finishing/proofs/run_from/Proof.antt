@@ -5,7 +5,7 @@ use denote.Ref.{now}
 use borrow.Author.Needs.{needs}
 use Rattle.study.specs.Study.{Study}
 use Rattle.stepping.specs.Stepping.{Went}
-use Rattle.finishing.specs.Finishing.{Prepared}
+use Rattle.barring.specs.Telling.{Prepared}
 use Rattle.finishing.proofs.Finish.{small-starts, stopped, off-goal, at-goal}
 use Rattle.finishing.proofs.run_from.Statement.{statement}
 use Rattle.finishing.proofs.run_from.Tie as tie

@@ -9,9 +9,10 @@ use Rattle.study.specs.Study.{Study}
 use Rattle.study.specs.Reading.{says, readingFor}
 use Rattle.tables.specs.Tables.{Loads}
 use Rattle.tables.specs.Rows.{seenAll}
-use Rattle.finishing.specs.Finishing.{Prepared, Ends}
-use Rattle.finishing.proofs.Loaded.{prepared}
-use Rattle.finishing.proofs.Finish.{few, file-refused, room-too-short, left-alone, handed-over}
+use Rattle.barring.specs.Telling.{Prepared}
+use Rattle.barring.proofs.Loaded.{prepared, few}
+use Rattle.finishing.specs.Finishing.{Ends}
+use Rattle.finishing.proofs.Finish.{file-refused, room-too-short, left-alone, handed-over}
 use borrow.Author.Needs.{needs}
 use Rattle.finishing.proofs.run_loaded.Statement.{statement}
 use Rattle.finishing.proofs.run_loaded.Tie as tie

@@ -6,7 +6,8 @@ use native.Mathlib.Omega.{arith}
 use lib.ListN.{length}
 use borrow.Author.Needs.{needs}
 use Rattle.study.specs.Study.{Study}
-use Rattle.stepping.specs.Stepping.{Ready, Stage}
+use Rattle.barring.specs.Telling.{Ready}
+use Rattle.stepping.specs.Stepping.{Stage}
 use Rattle.stepping.proofs.Halfway.{Halfway, begins, goes-on, refuses, ends}
 use Rattle.stepping.proofs.steps.steps.Statement.{statement}
 use Rattle.stepping.proofs.steps.steps.Tie as tie

@@ -9,10 +9,11 @@ use denote.Ref.{now}
 use borrow.Author.Needs.{needs}
 use borrow.Author.Tests.{not-true, not-false}
 use Rattle.study.specs.Study.{Study, actionAt}
-use Rattle.runs.specs.Run.{barred}
+use Rattle.replays.specs.Replay.{lacks}
 use Rattle.tables.specs.Rows.{outColumn}
-use Rattle.stepping.specs.declared.Fails.the-variants.{Nowhere}
-use Rattle.stepping.specs.Stepping.{Ready, Tells, failsOf}
+use Rattle.barring.specs.declared.Stance.the-variants.{Idle}
+use Rattle.barring.specs.Stances.{stanceOf}
+use Rattle.barring.specs.Telling.{Ready, Tells}
 use Rattle.stepping.proofs.Turns.{mark-in-range, takes-14, takes-20, takes-15, takes-16, takes-on}
 use Rattle.stepping.proofs.steps.take_step.Statement.{statement}
 use Rattle.stepping.proofs.steps.take_step.Tie as tie
@@ -48,7 +49,7 @@ module _ (c : tie.After-wide2) where
 
   free :
       {t : Study} → Ready (now (start opened .args .file)) (start opened .args .actions) (now (start opened .args .acts)) t
-      → Nowhere ≡ failsOf (barred (now (start opened .args .state)) (actionAt (t .actions) (start opened .args .entry)))
+      → Idle ≡ stanceOf (lacks (now (start opened .args .state)) (actionAt (t .actions) (start opened .args .entry)))
   free r = sym (c .before .before .enum-told .given .1) ∙ c .before .before .before .before .barred .ensures _ (told opened r)
 
 stops-requires : tie.Need-stops-requires
@@ -78,20 +79,23 @@ action-at-requires c κs = search needs
 barred-requires : tie.Need-barred-requires
 barred-requires c κs = (_, told (c .before) (start (c .before) .pre .1))
 
-enum-known-v : tie.Need-enum-known-v
-enum-known-v c = search needs
+enum-known-want : tie.Need-enum-known-want
+enum-known-want c = search needs
+
+cast-stops : tie.Need-cast-stops
+cast-stops c = search needs
 
 stops-requires-3 : tie.Need-stops-requires-3
 stops-requires-3 c κs = search needs
 
 returns-3 : tie.Need-returns-3
 returns-3 c =
-    let v = c .before .before in
+    let v = c .before .before .before in
     let b = v .before .before in
     let o = b .before .before in
     let a = start o .args in
     λ t past r s.
-    rw (c .stops3 .ensures) (takes-15 r s (a .k) (a .entry) (there o) (force o) (sym (v .v .given .1) ∙ b .barred .ensures _ (told o r)))
+    rw (c .stops3 .ensures) (takes-15 r s (a .k) (a .entry) (there o) (force o) (sym (v .want .given .1) ∙ b .barred .ensures _ (told o r)))
 
 enum-told : tie.Need-enum-told
 enum-told c = search needs
@@ -148,7 +152,8 @@ take-step-spec =
     returns-2
     action-at-requires
     barred-requires
-    enum-known-v
+    enum-known-want
+    cast-stops
     stops-requires-3
     returns-3
     enum-told

@@ -1,0 +1,1 @@
+// Parts of a list that was cut: plain mathematics, no code.

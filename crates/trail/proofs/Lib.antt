@@ -1,0 +1,4 @@
+pub mod Handed
+pub mod Room
+pub mod Cut
+pub mod Beginnings
