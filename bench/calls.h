@@ -16,21 +16,23 @@ typedef struct {
   marrowkite_answer (*report)(const uint8_t *, size_t, uint64_t, uint64_t, uint64_t, uint8_t *, size_t);
   marrowkite_answer (*chart)(const uint8_t *, size_t, uint64_t, const uint8_t *, size_t, const uint8_t *, size_t);
   marrowkite_answer (*replay)(const uint8_t *, size_t, uint64_t, const uint8_t *, size_t, marrowkite_occupant *);
+  marrowkite_answer (*journeys)(const uint8_t *, size_t, uint64_t, const uint8_t *, size_t, const uint8_t *, size_t, uint64_t,
+                                uint8_t *, size_t);
 } calls;
 
 static const calls library = {marrowkite_check, marrowkite_plan,      marrowkite_plan_seeded, marrowkite_run,
                               marrowkite_draw,  marrowkite_record_at, marrowkite_write,       marrowkite_report,
-                              marrowkite_chart, marrowkite_replay};
+                              marrowkite_chart, marrowkite_replay,    marrowkite_journeys};
 static const calls plain = {plain_check, plain_plan,      plain_plan_seeded, plain_run,
                             plain_draw,  plain_record_at, plain_write,       plain_report,
-                            plain_chart, plain_replay};
+                            plain_chart, plain_replay,    plain_journeys};
 
-enum { RECORD_AT, CHECK, PLAN, PLAN_SEEDED, RUN, DRAW, WRITE, REPORT, CHART, REPLAY };
+enum { RECORD_AT, CHECK, PLAN, PLAN_SEEDED, RUN, DRAW, WRITE, REPORT, CHART, REPLAY, JOURNEYS };
 enum { READ = 5, ROOM = 131072 };
 
-/* Which call, the crew, two numbers (the place; or the seed and the count; or the first seed and how many; or the situation), how
- * many bytes of the slices that are read (file and list or log; or file, actions and pairs; or variables, actions, conditions, crews
- * and tasks) and of the buffer, the occupant's record for a log. */
+/* Which call, the crew, two numbers (the place; or the seed and the count; or the first seed and how many; or the situation; or
+ * the start floor), how many bytes of the slices that are read (file and list or log; or file, actions and pairs; or file, ranks
+ * and rides; or variables, actions, conditions, crews and tasks) and of the buffer, the occupant's record for a log. */
 typedef struct {
   size_t which, crew, one, two, len[READ], buffer_len;
 } given;
@@ -50,6 +52,8 @@ static void make_calls(const calls *c, given g, size_t often) {
     if (g.which == REPORT) c->report(file, file_len, g.crew, g.one, g.two, buffer, g.buffer_len);
     if (g.which == CHART) c->chart(file, file_len, g.crew, list, list_len, in[2], g.len[2]);
     if (g.which == REPLAY) c->replay(file, file_len, g.crew, list, list_len, (marrowkite_occupant *)buffer);
+    if (g.which == JOURNEYS)
+      c->journeys(file, file_len, g.crew, list, list_len, in[2], g.len[2], g.one, buffer, g.buffer_len);
     if (g.which == WRITE)
       c->write((uint8_t)g.one, in[0], g.len[0], in[1], g.len[1], in[2], g.len[2], in[3], g.len[3], in[4], g.len[4], buffer,
                g.buffer_len);

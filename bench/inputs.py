@@ -1,6 +1,6 @@
 """The files that the calls are measured on: the porter file, files of 10 to 256 actions made from a fixed seed, two of them
 with a set of situations for each action, one of them with eight crews, and the longest file with one crew and with eight. Each has
-a straight plan for crew 0. And a chart and an access log for each of them."""
+a straight plan for crew 0. And a chart, an access log and rides for each of them."""
 
 import random
 import sys
@@ -122,3 +122,10 @@ def chart(data, plan):
         orders = chain + rng.sample(sorted(set(orders) - set(chain)), oracle.MOST_PAIRS - len(chain))
         rng.shuffle(orders)
     return bytes(sorted(plan)), bytes(action for pair in orders for action in pair)
+
+
+def rides(data):
+    """A ride for every other action of a file, between eight floors, so that some begin where the person is."""
+    actions = len(oracle.heard(data, 0).actions)
+    rng = random.Random(actions)
+    return bytes(number for action in range(0, actions, 2) for number in (action, *rng.sample(range(8), 2)))

@@ -677,6 +677,56 @@ answer plain_chart(const uint8_t *file, size_t file_len, uint64_t crew, const ui
   return (s.actions <= FEW ? vet_few : vet_many)(c, &s, plan, planned.first);
 }
 
+enum { HIGHEST_FLOOR = 199, NO_FLOOR = 255 };
+
+/* Enters each ride, or refuses the first that is at fault. `from` has no floor to begin with. */
+PART answer enter_rides(const uint8_t *rides, size_t len, unsigned actions, uint8_t *from, uint8_t *to) {
+  for (size_t at = 0, k = 0; at < len; at += 3, k++) {
+    if (len - at < 3) return refused(1, k);
+    unsigned i = rides[at], a = rides[at + 1], b = rides[at + 2];
+    if (i >= actions) return refused(14, k);
+    if (a > HIGHEST_FLOOR || b > HIGHEST_FLOOR) return refused(5, k);
+    if (a == b) return refused(6, k);
+    if (from[i] != NO_FLOOR) return refused(7, k);
+    from[i] = (uint8_t)a;
+    to[i] = (uint8_t)b;
+  }
+  return three(0, 0, 0);
+}
+
+answer plain_journeys(const uint8_t *file, size_t file_len, uint64_t crew, const uint8_t *ranks, size_t ranks_len,
+                      const uint8_t *rides, size_t rides_len, uint64_t start_floor, uint8_t *journeys, size_t journeys_len) {
+  uint8_t plan[MOST_ACTIONS], from[MOST_ACTIONS], to[MOST_ACTIONS];
+  answer planned = plain_plan(file, file_len, crew, ranks, ranks_len, plan, MOST_ACTIONS);
+  if (planned.number != 0) return planned;
+  if (start_floor > HIGHEST_FLOOR) return refused(5, rides_len / 3);
+  memset(from, NO_FLOOR, MOST_ACTIONS);
+  answer entered = enter_rides(rides, rides_len, (unsigned)ranks_len, from, to);
+  if (entered.number != 0) return entered;
+  size_t many = 0;
+  unsigned floor = (unsigned)start_floor;
+  for (size_t k = 0; k < planned.first; k++) {
+    unsigned i = plan[k];
+    if (from[i] == NO_FLOOR) continue;
+    many += from[i] == floor ? 1 : 2;
+    floor = to[i];
+  }
+  if (journeys_len < 3 * many) return refused(13, 3 * many);
+  floor = (unsigned)start_floor;
+  for (size_t k = 0; k < planned.first; k++) {
+    unsigned i = plan[k];
+    if (from[i] == NO_FLOOR) continue;
+    if (from[i] != floor) {
+      journeys[0] = (uint8_t)k, journeys[1] = (uint8_t)floor, journeys[2] = from[i];
+      journeys += 3;
+    }
+    journeys[0] = (uint8_t)k, journeys[1] = from[i], journeys[2] = to[i];
+    journeys += 3;
+    floor = to[i];
+  }
+  return three(0, many, 0);
+}
+
 /* The lists that a file is written from. */
 typedef struct {
   const uint8_t *counts, *actions, *conditions, *crews, *tasks;

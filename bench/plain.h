@@ -21,5 +21,8 @@ marrowkite_answer plain_chart(const uint8_t *file, size_t file_len, uint64_t cre
                               const uint8_t *pairs, size_t pairs_len);
 marrowkite_answer plain_replay(const uint8_t *file, size_t file_len, uint64_t crew, const uint8_t *log, size_t log_len,
                                marrowkite_occupant *occupant);
+marrowkite_answer plain_journeys(const uint8_t *file, size_t file_len, uint64_t crew, const uint8_t *ranks, size_t ranks_len,
+                                 const uint8_t *rides, size_t rides_len, uint64_t start_floor, uint8_t *journeys,
+                                 size_t journeys_len);
 
 #endif

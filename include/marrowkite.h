@@ -82,6 +82,14 @@
  *   23  the log went back: the step from the tick before to its
  *       own, taken round 65,536, is 32,768 or more
  *
+ *       the rides, after all of the plan's own refusals and before 13
+ *    5  the start floor is above 199                              first: how many whole rides were lent
+ *    1  the last ride is cut short                                first: the ride's index; so for 14, 5, 6 and 7
+ *   14  the ride's action is not there
+ *    5  one of its floors is above 199
+ *    6  it leads to its own floor
+ *    7  an earlier ride is of the same action, in the plan or not
+ *
  *
  * CREWS
  *
@@ -120,6 +128,7 @@
  *   marrowkite_report        10,240
  *   marrowkite_chart         13,312
  *   marrowkite_replay         3,456
+ *   marrowkite_journeys       5,376
  */
 #ifndef MARROWKITE_H
 #define MARROWKITE_H
@@ -255,6 +264,19 @@ marrowkite_answer marrowkite_chart(const uint8_t *file, size_t file_len, uint64_
  */
 marrowkite_answer marrowkite_replay(const uint8_t *file, size_t file_len, uint64_t crew, const uint8_t *log, size_t log_len,
                                     marrowkite_occupant *occupant);
+
+/*
+ * Makes the lift journeys of a crew's plan, which is that of marrowkite_plan with the same file, crew and ranks, of a person who
+ * begins on a floor. `rides` gives some actions a ride, three bytes each: the action, the floor that it begins on and the floor
+ * that it ends on, 0 to 199. A ride that begins on another floor than the person's is preceded by a journey there. Rides of actions
+ * that are not in the plan make no journey.
+ * 1 to 8 and 21, then 22, 9, 10, 11, 12; then 5 for the start floor; then ride by ride 1, 14, 5, 6, 7; then 13.
+ * Done: first is how many journeys there are; they fill the first bytes of `journeys` in plan order, three bytes each: the step,
+ * from 0, the floor from and the floor to. 1,536 bytes are always enough. With 13, first is the bytes needed.
+ */
+marrowkite_answer marrowkite_journeys(const uint8_t *file, size_t file_len, uint64_t crew, const uint8_t *ranks,
+                                      size_t ranks_len, const uint8_t *rides, size_t rides_len, uint64_t start_floor,
+                                      uint8_t *journeys, size_t journeys_len);
 
 #ifdef __cplusplus
 }

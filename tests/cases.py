@@ -8,11 +8,11 @@ import sys
 
 sys.dont_write_bytecode = True
 
-from calls import charts, checks, crews, draws, plans, records, replays, reports, runs, writes
+from calls import charts, checks, crews, draws, journeys, plans, records, replays, reports, runs, writes
 from calls.book import Book
 
 book = Book()
-for kind in (draws, records, checks, runs, plans, writes, reports, charts, crews, replays):
+for kind in (draws, records, checks, runs, plans, writes, reports, charts, crews, replays, journeys):
     kind.write(book)
 book.case("a word that the program does not know")
 book.ask("fly 12", "not understood")

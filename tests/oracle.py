@@ -16,15 +16,18 @@ buffer afterwards). A file is read into a Roster; a Study is what one of its cre
     report(file, crew, first, count, buffer)
     chart(file, crew, actions, pairs)
     replay(file, crew, log, occupant)          the occupant's record is the buffer
+    journeys(file, crew, ranks, rides, start, buffer)
 
 record_at, check and chart write nothing; their buffer afterwards is b"". `printed(input)` is what the program prints.
-`calls(seed, n)` yields n calls as (name, inputs), all but writes, reports, charts and replays; `writes(seed, n)`,
-`reports(seed, n)`, `charts(seed, n)` and `replays(seed, n)` yield n of these; `answer(name, inputs)` is what such a call answers.
+`calls(seed, n)` yields n calls as (name, inputs), all but writes, reports, charts, replays and journeys; `writes(seed, n)`,
+`reports(seed, n)`, `charts(seed, n)`, `replays(seed, n)` and `travels(seed, n)` yield n of these; `answer(name, inputs)` is what
+such a call answers.
 
     python3 tests/oracle.py --self-test      document 01's worked cases; both ways of planning on random small files; where
                                              walks break, by following the trace; charts, by trying every order; crews
                                              beside others against crews alone; replays, against runs and by what moving the
-                                             ticks, cutting the log and another record may not alter
+                                             ticks, cutting the log and another record may not alter; journeys, by what joins
+                                             them
 """
 
 import itertools
@@ -42,6 +45,8 @@ MOST_VARIABLES, MOST_VALUES, MOST_ACTIONS, MOST_CREWS = 32, 16, 256, 8
 LARGEST_SEED = 2147483646
 MOST_SEEDS = 64
 MOST_PAIRS = 4096
+HIGHEST_FLOOR = 199
+RIDE_LENGTH = 3
 LONGEST_FILE = 26482
 MOST_SITUATION = 7
 ALWAYS = 255  # the set of all eight situations, which is not written
@@ -868,6 +873,51 @@ def replay(file, crew, log, occupant):
         return (0, found.done, found.held), found.record()
     except Refused as refused:
         return refused.numbers, occupant
+def ride_by_action(study, data, start):
+    """Where the ride of each action that has one begins and ends; raises Refused with 5 for the start floor, then ride by ride with 1,
+    14, 5, 6 or 7."""
+    if start > HIGHEST_FLOOR:
+        raise Refused(5, len(data) // RIDE_LENGTH)
+    rides = {}
+    for index, at in enumerate(range(0, len(data), RIDE_LENGTH)):
+        ride = data[at : at + RIDE_LENGTH]
+        if len(ride) < RIDE_LENGTH:
+            raise Refused(1, index)
+        action, begins, ends = ride
+        if action >= len(study.actions):
+            raise Refused(14, index)
+        if begins > HIGHEST_FLOOR or ends > HIGHEST_FLOOR:
+            raise Refused(5, index)
+        if begins == ends:
+            raise Refused(6, index)
+        if action in rides:
+            raise Refused(7, index)
+        rides[action] = begins, ends
+    return rides
+
+
+def journeys_made(steps, rides, floor):
+    """The journeys of the steps in turn, of a person who begins on a floor: (step, from, to)."""
+    made = []
+    for step, action in enumerate(steps):
+        if action in rides:
+            begins, ends = rides[action]
+            if floor != begins:
+                made.append((step, floor, begins))
+            made.append((step, begins, ends))
+            floor = ends
+    return made
+
+
+def journeys(file, crew, ranks, rides, start, buffer):
+    try:
+        study = heard(file, crew)
+        test_ranks(ranks, len(study.actions))
+        steps = planned(study, ranks)
+        made = journeys_made(steps, ride_by_action(study, rides, start), start)
+        return (0, len(made), 0), filled(buffer, [number for journey in made for number in journey])
+    except Refused as refused:
+        return refused.numbers, buffer
 
 
 CALLS = {
@@ -881,6 +931,7 @@ CALLS = {
     "report": report,
     "chart": chart,
     "replay": replay,
+    "journeys": journeys,
 }
 
 
@@ -2230,6 +2281,92 @@ def replays(seed, n):
     makers = [replay_on_small, replay_on_middling, replay_at_limits, replay_of_any_bytes, replay_on_damaged]
     for _ in range(n):
         yield rng.choices(makers, [760, 30, 10, 50, 150])[0](rng)
+# Journeys
+
+
+def some_floors(rng):
+    """Few, so that a ride often begins where the person is."""
+    return rng.sample([0, 1, 2, 3, 7, 100, 198, HIGHEST_FLOOR, rng.randrange(200)], rng.randint(2, 4))
+
+
+def ride_of(rng, action, floors):
+    begins, ends = rng.sample(floors, 2)
+    return [action, begins, ends if ends != begins else (begins + 1) % 200]
+
+
+def rides_for(rng, study, floors):
+    """Rides in order: for most of the actions, some or none, in any order."""
+    share = rng.choice([0, 0.3, 0.7, 0.7, 1, 1])
+    actions = [action for action in range(len(study.actions)) if rng.random() < share]
+    rng.shuffle(actions)
+    return [ride_of(rng, action, floors) for action in actions]
+
+
+def put_a_fault(rng, study, rides, floors):
+    """A ride, one more or one that is there, breaks a rule."""
+    count = len(study.actions)
+    if not rides or rng.random() < 0.3:
+        rides.insert(rng.randint(0, len(rides)), ride_of(rng, rng.randrange(max(count, 1)), floors))
+    ride = rng.choice(rides)
+    way = rng.randrange(6)
+    if way == 0:
+        ride[0] = rng.choice([min(count, 255), 255])
+    elif way in (1, 2):
+        ride[way] = rng.choice([200, 200, 201, 255])
+    elif way == 3:
+        ride[2] = ride[1]
+    else:
+        rides.insert(rng.randint(0, len(rides)), [ride[0], *rng.sample([*floors, 5, 6], 2)])
+
+
+def some_rides(rng, study, floors):
+    """The bytes: in order, with a fault or two, now and then cut short."""
+    rides = rides_for(rng, study, floors)
+    for _ in range(rng.choice([1, 1, 2, 3]) if rng.random() < 0.35 else 0):
+        put_a_fault(rng, study, rides, floors)
+    data = bytes(byte for ride in rides for byte in ride)
+    if rng.random() < 0.1:
+        return data[: -rng.randint(1, 2)] if data else rng.randbytes(rng.randint(1, 2))
+    return data
+
+
+def some_start(rng, floors):
+    if rng.random() < 0.92:
+        return rng.choice(floors)
+    return rng.choice([0, HIGHEST_FLOOR, 200, 200, 255, 256, 256 + rng.choice(floors), 2**32, 2**64 - 1])
+
+
+def travel_on(rng, study, file, crew):
+    """A call; the buffer is for what is made of the study's plan, if anything is."""
+    count, floors = len(study.actions), some_floors(rng)
+    ranks = bad_rank_list(rng, count) if rng.random() < 0.06 else rank_list(rng, count)
+    rides, start = some_rides(rng, study, floors), some_start(rng, floors)
+    try:
+        needed = RIDE_LENGTH * len(journeys_made(planned_by_walks(study, ranks), ride_by_action(study, rides, start), start))
+    except (Refused, IndexError):
+        needed = rng.choice([0, 3, 30])
+    return "journeys", (file, crew, ranks, rides, start, rng.choice([some_buffer, room_enough, room_enough])(rng, needed))
+
+
+def travel_on_small(rng):
+    study = rng.choices([small_study, with_several_plans], [1, 2])[0](rng)
+    return travel_on(rng, study, *placed(rng, study))
+
+
+def travel_on_larger(rng):
+    study = rng.choices([middling, large_study, most_steps], [3, 1, 1])[0](rng)
+    return travel_on(rng, study, *placed_large(rng, study))
+
+
+def travel_on_damaged(rng):
+    return travel_on(rng, small_study(rng), file_that_does_not_load(rng), some_crew(rng))
+
+
+def travels(seed, n):
+    """Yields n calls of journeys, the same for the same seed and n."""
+    rng = random.Random(seed)
+    for _ in range(n):
+        yield rng.choices([travel_on_small, travel_on_larger, travel_on_damaged], [83, 4, 13])[0](rng)
 
 
 # ---------------------------------------------------------------------------------------------------------------------
@@ -2752,6 +2889,7 @@ ANSWERS_TO_MEET = {
     "report": set(range(9)) | {13, 18, 19, 21, 22},
     "chart": set(range(9)) | {10, 11, 12, 14, 19, 21, 22, 25, 26, 27, 28},
     "replay": set(range(9)) | {14, 19, 20, 21, 22, 23},
+    "journeys": set(range(15)) | {21, 22},
 }
 
 
@@ -2968,6 +3106,90 @@ def test_reports():
     return "reports worked by hand: agreed"
 
 
+def worked_journeys():
+    """Journeys worked by hand: the file, the ranks, the rides and the start floor, the buffer's length, the three numbers and what then
+    stands in front. By rising ranks the porter's plan is 0 1 3 2, by falling ones 1 0 3 2."""
+    rising, falling = "0001020304", "0403020100"
+    yield PORTER, rising, "020007", 0, 8, (0, 1, 0), "03 00 07"  # from the person's floor
+    yield PORTER, rising, "020007", 5, 8, (0, 2, 0), "03 05 00 03 00 07"  # from another
+    yield PORTER, rising, "", 0, 0, (0, 0, 0), ""
+    yield PORTER, rising, "", 199, 5, (0, 0, 0), ""
+    yield PORTER, rising, "040102", 9, 5, (0, 0, 0), ""  # of an action that is on no walk
+    yield PORTER, rising, "000001 010103", 0, 20, (0, 2, 0), "00 00 01 01 01 03"  # two in a row
+    yield PORTER, falling, "000001 010103", 0, 20, (0, 4, 0), "00 00 01 00 01 03 01 03 00 01 00 01"
+    yield PORTER, rising, "020304 000001 030102 010500", 0, 40, (0, 7, 0), "00 00 01 01 01 05 01 05 00 02 00 01 02 01 02 03 02 03 03 03 04"
+    yield PORTER, rising, "020304 000001 030102 010500", 0, 21, (0, 7, 0), "00 00 01 01 01 05 01 05 00 02 00 01 02 01 02 03 02 03 03 03 04"
+    yield PORTER, rising, "020304 000001 030102 010500", 0, 20, (13, 21, 0), ""
+    yield PORTER, rising, "020007", 0, 2, (13, 3, 0), ""
+    yield PORTER, rising, "02c700 0000c7", 199, 9, (0, 3, 0), "00 c7 00 00 00 c7 03 c7 00"
+    yield PORTER, rising, "020007 000001", 200, 8, (5, 2, 0), ""
+    yield PORTER, rising, "020007 00", 256, 8, (5, 1, 0), ""
+    yield PORTER, rising, "ff", 2**64 - 1, 8, (5, 0, 0), ""
+    yield PORTER, rising, "02", 0, 8, (1, 0, 0), ""
+    yield PORTER, rising, "0200", 0, 8, (1, 0, 0), ""
+    yield PORTER, rising, "020007 050102 00", 0, 8, (14, 1, 0), ""  # a cut last ride behind a faulty one
+    yield PORTER, rising, "020007 000102 0001", 0, 8, (1, 2, 0), ""
+    yield PORTER, rising, "05c8c8", 0, 8, (14, 0, 0), ""
+    yield PORTER, rising, "020007 00c8c8", 0, 8, (5, 1, 0), ""
+    yield PORTER, rising, "020007 0000c8", 0, 8, (5, 1, 0), ""
+    yield PORTER, rising, "020007 02ffc7", 0, 8, (5, 1, 0), ""
+    yield PORTER, rising, "020007 020303", 0, 8, (6, 1, 0), ""
+    yield PORTER, rising, "020007 000102 020007", 0, 8, (7, 2, 0), ""
+    yield PORTER, rising, "040007 000102 040102", 0, 8, (7, 2, 0), ""  # of a ride that is never used
+    yield PORTER, rising, "040007 000101 040102", 0, 8, (6, 1, 0), ""
+    yield PORTER, rising[2:], "ff", 200, 0, (9, 4, 1), ""
+    yield PORTER, "0001020303", "ff", 200, 0, (9, 4, 0), ""
+    yield porter((1, 0, 1), (0, 2, 0)), rising, "ff", 200, 0, (10, 1, 0), ""
+    yield porter((0, 2, 1)), rising, "ff", 200, 0, (11, 2, 0), ""
+    yield two_wanting(1), "0001", "ff", 200, 0, (12, 0, 0), ""
+    yield PORTER[:55], rising, "ff", 200, 0, (1, 55, 0), ""
+    # an action out of force is there: its ride is in order and makes no journey
+    night = file_of(Study([2], [Action(0, 0, 1), Action(0, 1, 0, [], 2)], [(0, 1)], 1))
+    yield night, "0001", "010305 000304", 3, 8, (0, 1, 0), "00 03 04"
+    yield night, "0001", "010305 000304 010001", 3, 8, (7, 2, 0), ""
+
+
+def inputs_of_worked_journeys(file, ranks, rides, start, length):
+    return file, 0, bytes.fromhex(ranks), bytes.fromhex(rides), start, b"\xaa" * length
+
+
+def test_worked_journeys():
+    cases = list(worked_journeys())
+    for *call, numbers, made in cases:
+        given = journeys(*inputs_of_worked_journeys(*call))
+        left = bytes.fromhex(made)
+        assert given == (numbers, left + b"\xaa" * (call[-1] - len(left))), f"journeys {call}: {given} and not {numbers}"
+    return f"{len(cases)} lists of rides worked by hand: agreed"
+
+
+def test_journeys_join(seed, n):
+    """What document 02 says of the journeys as a whole: each begins where the one before ended, none stays, without those that precede
+    a ride they are the rides of the plan's steps; and the plan is that of the call that plans, whatever the rides."""
+    rng = random.Random(seed)
+    seen, longest = Counter(), 0
+    for _ in range(n):
+        _, (file, crew, ranks, data, start, buffer) = rng.choices([travel_on_small, travel_on_larger], [20, 1])[0](rng)
+        numbers, left = journeys(file, crew, ranks, data, start, bytes(1536))
+        planned_numbers, steps = plan(file, crew, ranks, bytes(256))
+        seen[numbers[0] if planned_numbers[0] == 0 else "no plan"] += 1
+        if planned_numbers[0]:
+            assert numbers == planned_numbers
+        if numbers[0] or planned_numbers[0]:
+            continue
+        longest = max(longest, numbers[1])
+        made = [tuple(left[at : at + 3]) for at in range(0, 3 * numbers[1], 3)]
+        rides = {data[at]: (data[at + 1], data[at + 2]) for at in range(0, len(data), 3)}
+        assert all(begins != ends for _, begins, ends in made)
+        assert [start, *(ends for _, _, ends in made)][: len(made)] == [begins for _, begins, _ in made]
+        alone = [made[k] for k in range(len(made)) if k + 1 == len(made) or made[k + 1][0] != made[k][0]]
+        ridden = [(step, *rides[action]) for step, action in enumerate(steps[: planned_numbers[1]]) if action in rides]
+        assert alone == ridden and len(made) <= 2 * len(ridden)
+    assert all(seen[number] > n // 200 for number in (0, 1, 5, 6, 7, 14, "no plan")), seen
+    assert longest > 256, longest
+    tally = ", ".join(f"{number}: {seen[number]}" for number in sorted(seen, key=str))
+    return f"{n} lists of rides, their journeys joined and held to the plan: agreed ({tally}; up to {longest} journeys)"
+
+
 def answers_to(file, crew, lists):
     """What each call that names a crew answers: some rank list, some steps, some chart."""
     ranks, steps, pairs = lists
@@ -2979,6 +3201,7 @@ def answers_to(file, crew, lists):
         report(file, crew, 1, 2, bytes(5000)),
         chart(file, crew, steps, pairs),
         replay(file, crew, log_of(enumerate(steps + pairs)), bytes(range(OCCUPANT_LENGTH))),
+        journeys(file, crew, ranks, bytes(byte for action in steps for byte in (action, *pairs[:2])), 7, bytes(1536)),
     ]
 
 
@@ -3009,7 +3232,7 @@ def test_crews(seed, files):
     return f"{files} files of one to eight crews, each crew as alone and where crews are exchanged: agreed"
 
 
-KINDS_OF_CALLS = {calls: 1, writes: 5, reports: 20, charts: 10, replays: 10}  # a part of so many
+KINDS_OF_CALLS = {calls: 1, writes: 5, reports: 20, charts: 10, replays: 10, travels: 10}  # a part of so many
 
 
 def test_calls(seed, n):
@@ -3020,7 +3243,7 @@ def test_calls(seed, n):
     for name, inputs in itertools.chain(*(make(seed, n // part) for make, part in KINDS_OF_CALLS.items())):
         numbers, buffer = answer(name, inputs)
         seen[name][numbers[0]] += 1
-        if name in ("plan", "plan_seeded", "run", "draw", "write", "report", "replay"):
+        if name in ("plan", "plan_seeded", "run", "draw", "write", "report", "replay", "journeys"):
             assert len(buffer) == len(inputs[-1]) and (numbers[0] == 0 or buffer == inputs[-1])
         if name == "draw":
             drawn_edges.add((inputs[0], inputs[1], len(inputs[2])))
@@ -3043,7 +3266,7 @@ def test_calls(seed, n):
     assert (longest_file, longest_plan, longest_written) == (LONGEST_FILE, 256, LONGEST_FILE), (longest_file, longest_plan)
     assert list(calls(seed, 300)) == list(calls(seed, 300)) and list(writes(seed, 300)) == list(writes(seed, 300))
     assert most_charted == (256, MOST_PAIRS) and most_events == MOST_EVENTS, (most_charted, most_events)
-    for make in (reports, charts, replays):
+    for make in (reports, charts, replays, travels):
         assert list(make(seed, 100)) == list(make(seed, 100)), make
     answered = sum(sum(tally.values()) for tally in seen.values())
     lines = [f"{answered} calls answered, each answer of each call met, a file of {longest_file} bytes and a plan of 256 steps too"]
@@ -3091,6 +3314,8 @@ def self_test():
         (test_charts_by_orders, (1, 2000)),
         (test_worked_replays, ()),
         (test_replays, (1, 2000)),
+        (test_worked_journeys, ()),
+        (test_journeys_join, (1, 2000)),
         (test_crews, (1, 400)),
         (test_limits, (1,)),
         (test_both_ways, (1, 5000)),

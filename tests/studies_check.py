@@ -2,12 +2,12 @@
 program prints for NAME.bin, each NAME.explained what the explainer of tests/explain says; each NAME.names and NAME.why has these
 lines with the table's words; each NAME.charted is what the oracle says of NAME.chart, in words; each NAME.compared leads from one
 plan to another by straight plans, in as few exchanges as there are pairs that differ; each NAME.replayed is what the oracle says of
-NAME.log, event by event, in words; and bin/make-study itself: its mistakes, the
+NAME.log, event by event, in words, each NAME.travelled what it says of NAME.rides; and bin/make-study itself: its mistakes, the
 refusals that it shows, --names and --show. It proves and builds the writer where that is still to be done. The last line is
 'N passed, M failed'.
 
     python3 tests/studies_check.py             checks
-    python3 tests/studies_check.py --write     writes every file but tables, charts and logs anew, then checks
+    python3 tests/studies_check.py --write     writes every file but tables, charts, logs and rides anew, then checks
 """
 
 import importlib.util
@@ -67,6 +67,9 @@ VARIED = ["porter", "hotel"]
 
 # The charts, and the studies and crews that they are of: what bin/chart prints of each is stored.
 CHARTED = {"porter": ("porter", 0), "hotel": ("hotel", 0), "hotel-short": ("hotel", 0), "hotel-crews": ("hotel-crews", 1)}
+
+# The lists of rides, and the studies and crews that they are of: what bin/journeys prints of each is stored.
+TRAVELLED = {"hotel": ("hotel", 0), "hotel-crews": ("hotel-crews", 1), "hotel-twice": ("hotel", 0)}
 
 # The studies of which what bin/compare prints is stored: the crew, and the two seeds.
 COMPARED = {"porter": (0, 1, 3), "hotel": (0, 1, 2), "hotel-crews": (1, 1, 2)}
@@ -350,6 +353,49 @@ def charted(name):
     return "".join(f"{line}\n" for line in lines)
 
 
+def rides_lines(name):
+    """Of a list of rides the floors' numbers by name, the start, and by number the lines of rides, as lists of words."""
+    floors, start, rides = {}, None, {}
+    for number, line in enumerate(stored(name, ".rides").decode().splitlines(), 1):
+        words = line.split("#")[0].split()
+        if words[:1] == ["floor"]:
+            floors[words[1]] = int(words[2])
+        elif words[:1] == ["start"]:
+            start = words[1]
+        elif words:
+            rides[number] = words
+    return floors, start, rides
+
+
+def travelled(name):
+    """What bin/journeys prints of rides that are in order or of which one is an action's second, by the oracle; nothing is shared with
+    bin/journeys."""
+    study, crew = TRAVELLED[name]
+    data = stored(study, ".bin")
+    numbers = {action.split(":")[0]: number for number, action in enumerate(actions_in_words(study))}
+    floors, start, lines = rides_lines(name)
+    floor = lambda word: floors[word] if word in floors else int(word)  # noqa: E731
+    called = lambda number: {value: key for key, value in floors.items()}.get(number, str(number))  # noqa: E731
+    rides = bytes(n for action, _, begins, _, ends in lines.values() for n in (numbers[action], floor(begins), floor(ends)))
+    heard = oracle.heard(data, crew)
+    ranks = bytes(oracle.drawn(heard.seed, len(heard.actions))[0])
+    (answer, first, _), left = oracle.journeys(data, crew, ranks, rides, floor(start), bytes(1536))
+    if answer:
+        assert answer == 7, f"{name}.rides is refused with {answer}"
+        line = list(lines)[first]
+        told = f"{lines[line][0]} has a ride already"
+        return f"refused 7 {first} 0  {told}\nstudies/{name}.rides:{line}: {told}\n"
+    (_, many, _), plan = oracle.plan(data, crew, ranks, bytes(256))
+    rows = [tuple(left[at : at + 3]) for at in range(0, 3 * first, 3)]
+    ridden = [k for k in range(first) if k + 1 == first or rows[k + 1][0] != rows[k][0]]
+    also = f", and {first - len(ridden)} to where one begins" if len(ridden) < first else ""
+    text = f"journeys {first}  {len(ridden)} rides in {many} steps{also}\n"
+    for k, (step, begins, ends) in enumerate(rows):
+        action, way = list(numbers)[plan[step]], f"{called(begins)} -> {called(ends)}"
+        text += f"{step} {begins} {ends}  " + (f"{action}: {way}\n" if k in ridden else f"{way}, to where {action} begins\n")
+    return text
+
+
 def bringing(action, steps):
     """The lists on the way while an action is brought to the front, as crates/swaps/specs/Swaps.antt has it."""
     if steps[0] == action:
@@ -468,6 +514,8 @@ def write_all():
         (STUDIES / f"{name}.compared").write_text(compared(name))
     for name in REPLAYED:
         (STUDIES / f"{name}.replayed").write_text(replayed(name))
+    for name in TRAVELLED:
+        (STUDIES / f"{name}.travelled").write_text(travelled(name))
 
 
 def check_study(name, first_line):
@@ -531,6 +579,22 @@ def check_logs():
     expect((example / "stdin").read_bytes() == given, "crates/trail/stdin is not the porter's log")
     records = [oracle.replay(oracle.PORTER, 0, log[:at], bytes(40))[1] for at in range(0, len(log) + 1, 4)]
     expect((example / "stdout").read_bytes() == b"replayed 4 1\n" + b"".join(records), "crates/trail/stdout is not its trail")
+def check_travelled(name):
+    expect(stored(name, ".travelled").decode() == travelled(name), f"{name}.travelled is not what the oracle says of the rides")
+
+
+def check_rides():
+    """What the rides are there for: of the hotel's some begin where the person is and some do not, and one is of no plan; the second
+    ride of the other list is of an action that no plan has. And what the program is run on."""
+    floors, _, lines = rides_lines("hotel")
+    steps = [line.split() for line in stored("hotel", ".travelled").decode().splitlines()[1:]]
+    expect(0 < sum("where" in words for words in steps) < len(steps) / 2, "the hotel's rides are all preceded, or none is")
+    expect(len(lines) == len([words for words in steps if "where" not in words]) + 1, "not one of the hotel's rides is in no plan")
+    expect("stow-cart" in lines[max(lines)] and stored("hotel-twice", ".travelled").decode().count("stow-cart") == 2, "the slip")
+    data = (ROOT / "crates" / "dispatch" / "stdin").read_bytes()
+    head = bytes([0, 5, 0, 3, 0, 0, 0, 5, 0, 1, 2, 3, 4, 2, 0, 7])
+    expect(data == head + oracle.PORTER, "crates/dispatch/stdin is not the porter with a ride")
+    expect((ROOT / "crates" / "dispatch" / "stdout").read_bytes() == b"journeys 2\n" + bytes([3, 5, 0, 3, 0, 7]), "crates/dispatch/stdout")
 
 
 def check_charts():
@@ -561,6 +625,7 @@ def check_folder():
     named |= {name + suffix for name in CHARTED for suffix in (".chart", ".charted")}
     named |= {f"{name}.compared" for name in COMPARED}
     named |= {name + suffix for name in REPLAYED for suffix in (".log", ".replayed")}
+    named |= {name + suffix for name in TRAVELLED for suffix in (".rides", ".travelled")}
     there = {path.name for path in STUDIES.iterdir()} - {"README.md"}
     expect(named == there, f"studies/ lacks {sorted(named - there)} or has {sorted(there - named)} too many")
 
@@ -627,7 +692,7 @@ def check_explanations():
 
 
 def check_pages():
-    """The explanations, the charts, the comparisons and the replays that the pages show are those of the studies."""
+    """The explanations, charts, comparisons, replays and journeys that the pages show are those of the studies."""
     for page, names in {"README.md": ["ring"], "docs/EXPLAIN.md": ["porter", "doorman"]}.items():
         shown = re.findall(r"```\n\$ bin/explain studies/(\S+)\.study\n(.*?)```", (ROOT / page).read_text(), re.DOTALL)
         expect(shown == [(name, why(name)) for name in names], f"{page} does not show what bin/explain prints of {names}")
@@ -641,6 +706,10 @@ def check_pages():
         expect(shown == wanted, f"{page} does not show what bin/compare prints of {names}")
     shown = re.findall(r"```\n\$ bin/replay --names studies/(\S+)\.study studies/\S+\.log\n(.*?)```", (ROOT / "docs/REPLAY.md").read_text(), re.DOTALL)
     expect(shown == [(name, replayed(name)) for name in REPLAYED], "docs/REPLAY.md does not show what bin/replay prints")
+    for page, names in {"README.md": ["hotel"], "docs/JOURNEYS.md": ["hotel", "hotel-twice"]}.items():
+        shown = re.findall(r"```\n\$ bin/journeys studies/(\S+)\.study --rides studies/(\S+)\.rides\n(.*?)```", (ROOT / page).read_text(), re.DOTALL)
+        wanted = [(TRAVELLED[name][0], name, travelled(name)) for name in names]
+        expect(shown == wanted, f"{page} does not show what bin/journeys prints of {names}")
 
 
 def check_night_porter():
@@ -804,6 +873,9 @@ def main():
     for name in REPLAYED:
         attempt(check_replayed, name)
     attempt(check_logs)
+    for name in TRAVELLED:
+        attempt(check_travelled, name)
+    attempt(check_rides)
     attempt(check_charts)
     attempt(check_folder)
     attempt(check_particulars)

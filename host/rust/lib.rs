@@ -108,6 +108,18 @@ mod exported {
             log_len: usize,
             occupant: *mut u8,
         ) -> Answer;
+        pub fn marrowkite_journeys(
+            file: *const u8,
+            file_len: usize,
+            crew: u64,
+            ranks: *const u8,
+            ranks_len: usize,
+            rides: *const u8,
+            rides_len: usize,
+            start_floor: u64,
+            journeys: *mut u8,
+            journeys_len: usize,
+        ) -> Answer;
         pub fn marrowkite_write(
             situation: u8,
             variables: *const u8,
@@ -265,6 +277,35 @@ pub fn replay(file: &[u8], crew: u64, log: &[u8], occupant: &mut [u8; 40]) -> An
             log.as_ptr(),
             log.len(),
             occupant.as_mut_ptr(),
+        )
+    }
+}
+
+/// Makes the lift journeys of the plan that `plan` gives with the same file, crew and ranks, of a person who begins on a floor.
+/// `rides` gives some actions a ride, three bytes each: the action, the floor from and the floor to, 0 to 199; one from another
+/// floor than the person's is preceded by a journey there. 1 to 8 and 21, then 22, 9, 10, 11, 12; then 5 for the start floor, with
+/// the number of whole rides; then ride by ride 1, 14, 5, 6, 7, with the ride's index; then 13 with the bytes needed. Done: first is
+/// the number of journeys, which fill `journeys[..3 * first]`, three bytes each: step, from, to.
+pub fn journeys(
+    file: &[u8],
+    crew: u64,
+    ranks: &[u8],
+    rides: &[u8],
+    start_floor: u64,
+    journeys: &mut [u8],
+) -> Answer {
+    unsafe {
+        exported::marrowkite_journeys(
+            file.as_ptr(),
+            file.len(),
+            crew,
+            ranks.as_ptr(),
+            ranks.len(),
+            rides.as_ptr(),
+            rides.len(),
+            start_floor,
+            journeys.as_mut_ptr(),
+            journeys.len(),
         )
     }
 }
@@ -447,6 +488,25 @@ mod tests {
         assert_eq!((by_night, record), (answer(20, 0, 0), [0xaa; 40]));
     }
 
+    #[test]
+    fn journeys_are_made() {
+        let (rising, mut made) = ([0, 1, 2, 3, 4], [0xaa; 8]);
+        assert_eq!(journeys(&PORTER, 0, &rising, &[2, 0, 7], 5, &mut made), answer(0, 2, 0));
+        assert_eq!(made, [3, 5, 0, 3, 0, 7, 0xaa, 0xaa]);
+        assert_eq!(journeys(&PORTER, 0, &rising, &[2, 0, 7], 0, &mut made), answer(0, 1, 0));
+        assert_eq!(made, [3, 0, 7, 3, 0, 7, 0xaa, 0xaa]);
+        assert_eq!(journeys(&PORTER, 0, &rising, &[], 199, &mut made), answer(0, 0, 0));
+        assert_eq!(journeys(&PORTER, 0, &rising, &[2, 0, 7, 1], 200, &mut made), answer(5, 1, 0));
+        assert_eq!(journeys(&PORTER, 0, &rising, &[2, 0, 7, 1], 0, &mut made), answer(1, 1, 0));
+        assert_eq!(journeys(&PORTER, 0, &rising, &[5, 0, 7], 0, &mut made), answer(14, 0, 0));
+        assert_eq!(journeys(&PORTER, 0, &rising, &[2, 0, 200], 0, &mut made), answer(5, 0, 0));
+        assert_eq!(journeys(&PORTER, 0, &rising, &[2, 7, 7], 0, &mut made), answer(6, 0, 0));
+        assert_eq!(journeys(&PORTER, 0, &rising, &[4, 0, 7, 4, 1, 2], 0, &mut made), answer(7, 1, 0));
+        assert_eq!(journeys(&PORTER, 0, &rising, &[2, 0, 7], 5, &mut made[..5]), answer(13, 6, 0));
+        assert_eq!(journeys(&PORTER, 0, &[], &[9], 200, &mut made), answer(9, 0, 1));
+        assert_eq!(made, [3, 0, 7, 3, 0, 7, 0xaa, 0xaa]);
+    }
+
     /// The porter, and behind it a crew that brings the pass back and fetches the cart.
     fn two_crews() -> [u8; 74] {
         let mut file = [0; 74];
@@ -490,6 +550,7 @@ mod tests {
             assert_eq!(report(&two_crews(), crew, 0, 0, &mut buffer), answer(22, crew, 0));
             assert_eq!(chart(&two_crews(), crew, &[9], &[0]), answer(22, crew, 0));
             assert_eq!(replay(&two_crews(), crew, &[0], &mut [0; 40]), answer(22, crew, 0));
+            assert_eq!(journeys(&two_crews(), crew, &[], &[9], 200, &mut buffer), answer(22, crew, 0));
         }
         assert_eq!(plan_seeded(&two_crews()[..73], 2, &mut buffer), answer(1, 73, 0));
         assert_eq!(buffer, [0xaa; 4]);

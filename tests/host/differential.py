@@ -4,9 +4,8 @@
 
 COMMAND starts tests/host/serve.c. The calls are those of tests/oracle.py: its worked cases, then calls from a seed, which
 is drawn anew for each run (or given, also by MARROWKITE_SEED) and printed, then a fifth as many writes, a twentieth as many
-reports, an eighth as many charts and an eighth as many replays. A run goes on until each answer that each call can give was met, for at most twice as
-many calls. Each file that loads is read by the oracle and
-written back by the library, which has to give the same bytes. Each call's stack is held to the limit that
+reports, and of charts, replays and lists of rides an eighth as many each. A run goes on until each answer that each call can give
+was met, for at most twice as many calls. Each file that loads is read by the oracle and written back by the library, which has to give the same bytes. Each call's stack is held to the limit that
 include/marrowkite.h names, unless any stack will do, as for the yardstick.
 The last line is 'N passed, M failed': calls that agree, calls that do not and answers that were never met.
 """
@@ -27,7 +26,8 @@ ROOT = Path(__file__).resolve().parents[2]
 sys.path.insert(0, str(ROOT / "tests"))
 import oracle  # noqa: E402
 
-NAMES = ["record_at", "check", "plan", "plan_seeded", "run", "draw", "write", "report", "chart", "replay"]  # in the order of serve.c
+# in the order of serve.c
+NAMES = ["record_at", "check", "plan", "plan_seeded", "run", "draw", "write", "report", "chart", "replay", "journeys"]
 FILE_FAULTS = {*range(1, 9), 21}
 NO_CREW = 22
 CAN_ANSWER = {
@@ -41,6 +41,7 @@ CAN_ANSWER = {
     "report": {0, 13, 18, 19, NO_CREW} | FILE_FAULTS,
     "chart": {0, 10, 11, 12, 14, 19, 25, 26, 27, 28, NO_CREW} | FILE_FAULTS,
     "replay": {0, 14, 19, 20, 23, NO_CREW} | FILE_FAULTS,
+    "journeys": {0, 9, 10, 11, 12, 13, 14, NO_CREW} | FILE_FAULTS,
 }
 SHOWN = 5
 SLICES = 5  # that a call reads, at most
@@ -61,6 +62,8 @@ def parts(name, inputs):
         return crew, rest[:2], (file,), rest[2]
     if name == "chart":
         return crew, (0, 0), (file, *rest), b""
+    if name == "journeys":
+        return crew, (rest[2], 0), (file, *rest[:2]), rest[3]
     *read, buffer = rest
     return crew, (0, 0), (file, *read), buffer
 
@@ -102,17 +105,18 @@ def stack_limits():
 
 
 def all_calls(seed, n, seen):
-    """The worked cases; n calls, a fifth as many writes, a twentieth as many reports, an eighth as many charts and as many replays; as
-    many more as it takes to meet every answer, but at most as many again. Each with what it has to answer; behind each call on a
-    file that loads, the write of what the file says."""
+    """The worked cases; n calls, a fifth as many writes, a twentieth as many reports, and of charts, replays and lists of rides an
+    eighth as many each; as many more as it takes to meet every answer, but at most as many again. Each with what it has to answer;
+    behind each call on a file that loads, the write of what the file says."""
     worked = [(name, inputs) for _, name, inputs, *_ in oracle.worked_cases()]
     worked += [("write", oracle.inputs_of_worked_write(lists, length)) for lists, length, _ in oracle.worked_writes()]
     worked += [("chart", oracle.inputs_of_worked_chart(*call)) for *call, _ in oracle.worked_charts()]
     worked += [("replay", oracle.inputs_of_worked_replay(*call)) for *call, _, _ in oracle.worked_replays()]
+    worked += [("journeys", oracle.inputs_of_worked_journeys(*call)) for *call, _, _ in oracle.worked_journeys()]
     for name, inputs in worked:
         yield name, inputs, oracle.answer(name, inputs)
     kinds = [(n, oracle.calls, NAMES[:6]), (n // 5, oracle.writes, ["write"]), (n // 20, oracle.reports, ["report"])]
-    kinds += [(n // 8, oracle.charts, ["chart"]), (n // 8, oracle.replays, ["replay"])]
+    kinds += [(n // 8, oracle.charts, ["chart"]), (n // 8, oracle.replays, ["replay"]), (n // 8, oracle.travels, ["journeys"])]
     for some, calls, names in kinds:
         for index, (name, inputs) in enumerate(calls(seed, 2 * some)):
             if index >= some and not unmet(seen, names):

@@ -1,10 +1,10 @@
 /* Makes the calls that it reads, one after another, until the input ends; tests/host/differential.py drives it.
  *
  * A call is ten numbers of eight bytes, least significant first: which call (the place in `enum` below), the crew, two
- * numbers (the place; or the seed and the count; or the first seed and how many; or the situation; else 0), the lengths of
- * the five slices that are read (the file and the ranks, plan or log; or the file, a chart's actions and its pairs; or variables,
- * actions, conditions, crews and tasks; else 0) and of the buffer, which is the occupant's record for a log; then the bytes of
- * these six.
+ * numbers (the place; or the seed and the count; or the first seed and how many; or the situation; or the start floor; else 0), the
+ * lengths of the five slices that are read (the file and the ranks, plan or log; or the file, a chart's actions and its pairs; or
+ * the file, the ranks and the rides; or variables, actions, conditions, crews and tasks; else 0) and of the buffer, which is the
+ * occupant's record for a log; then the bytes of these six.
  * An answer is the call's three or five numbers (five are written, the rest 0), then 1 if all guard bytes are whole and
  * what was lent to be read is as it was, else 0, then how many bytes of stack were used; then the buffer.
  *
@@ -16,7 +16,7 @@ long read(int from, void *to, size_t len);
 long write(int to, const void *from, size_t len);
 void exit(int status) __attribute__((noreturn));
 
-enum { RECORD_AT, CHECK, PLAN, PLAN_SEEDED, RUN, DRAW, WRITE, REPORT, CHART, REPLAY };
+enum { RECORD_AT, CHECK, PLAN, PLAN_SEEDED, RUN, DRAW, WRITE, REPORT, CHART, REPLAY, JOURNEYS };
 enum { READ = 5 };
 
 typedef struct {
@@ -50,6 +50,8 @@ static void make_call(void) {
   if (c.which == CHART) r = marrowkite_chart(file.at, file.len, c.crew, list.at, list.len, in[2].at, in[2].len);
   if (c.which == REPLAY)
     r = marrowkite_replay(file.at, file.len, c.crew, list.at, list.len, (marrowkite_occupant *)buffer.at);
+  if (c.which == JOURNEYS)
+    r = marrowkite_journeys(file.at, file.len, c.crew, list.at, list.len, in[2].at, in[2].len, c.one, buffer.at, buffer.len);
   if (c.which == WRITE)
     r = marrowkite_write((uint8_t)c.one, in[0].at, in[0].len, in[1].at, in[1].len, in[2].at, in[2].len, in[3].at, in[3].len,
                          in[4].at, in[4].len, buffer.at, buffer.len);

@@ -1,5 +1,6 @@
 /* Document 01's seventeen worked cases through the exported calls, one line each, and what the cases leave open: calls one
- * after another, calls on several threads, single records, the generator's check number, files from lists, charts, crews, logs.
+ * after another, calls on several threads, single records, the generator's check number, files from lists, charts, crews, logs,
+ * journeys.
  * Every buffer is lent between guard bytes. Each check below looks at all numbers, all bytes of the buffer, the inputs and
  * the guard bytes; a refused call has to leave the buffer as it was. */
 #include "lend.h"
@@ -225,6 +226,18 @@ static int replays(void) {
          replay(PORTER_WITHOUT_SEED, BYTES(0), REFUSED(5, 50, 0)) & long_logs();
 }
 
+static int journeys_for(bytes file, uint64_t crew, bytes ranks, bytes rides, uint64_t start, size_t room, marrowkite_answer wanted,
+                        bytes left) {
+  lent f = lend(file), r = lend(ranks), d = lend(rides), buffer = lend_room(room);
+  marrowkite_answer given =
+      marrowkite_journeys(f.at, f.len, crew, r.at, r.len, d.at, d.len, start, buffer.at, buffer.len);
+  return same(given, wanted) & kept(f, file) & kept(r, ranks) & kept(d, rides) & holds_only(buffer, left);
+}
+
+static int journeys(bytes rides, uint64_t start, size_t room, marrowkite_answer wanted, bytes left) {
+  return journeys_for(PORTER, 0, RISING, rides, start, room, wanted, left);
+}
+
 /* The porter as crew 0, and a crew 1 that brings the pass back and fetches the cart. */
 #define TWO_CREWS                                                                                                       \
   BYTES(PORTER_TABLE, TASK(0, 0, 1), TASK(1, 0, 2), TASK(2, 0, 1), SEED_1, 9, TASK(0, 1, 0), TASK(1, 0, 1), TASK(2, 0, 0), \
@@ -236,7 +249,8 @@ static int replays(void) {
 static int not_there(bytes file, uint64_t crew) {
   return plan_for(file, crew, NOTHING, 0, REFUSED(22, crew, 0)) & seeded_for(file, crew, 8, REFUSED(22, crew, 0)) &
          run_for(file, crew, BYTES(255), 0, REFUSED(22, crew, 0)) & report_for(file, crew, 0, 0, 0, REFUSED(22, crew, 0)) &
-         chart_for(file, crew, TOO_LONG(257), NOTHING, ANSWER(22, crew, 0)) & replay_for(file, crew, BYTES(0), REFUSED(22, crew, 0));
+         chart_for(file, crew, TOO_LONG(257), NOTHING, ANSWER(22, crew, 0)) & replay_for(file, crew, BYTES(0), REFUSED(22, crew, 0)) &
+         journeys_for(file, crew, NOTHING, BYTES(255), 200, 0, REFUSED(22, crew, 0));
 }
 
 static int crews(void) {
@@ -437,6 +451,21 @@ int main(void) {
                        chart(PORTER_WITHOUT_SEED, NOTHING, NOTHING, ANSWER(5, 50, 0)));
   report("access logs", replays());
   report("crews", crews());
+  report("journeys", journeys(BYTES(2, 0, 7), 0, 8, DONE(1, 0), BYTES(3, 0, 7)) &
+                         journeys(BYTES(2, 0, 7), 5, 6, DONE(2, 0), BYTES(3, 5, 0, 3, 0, 7)) &
+                         journeys(BYTES(2, 0, 7), 5, 5, REFUSED(13, 6, 0)) &
+                         journeys(BYTES(0, 0, 1, 1, 1, 3), 0, 8, DONE(2, 0), BYTES(0, 0, 1, 1, 1, 3)) &
+                         journeys(NOTHING, 199, 8, DONE(0, 0), NOTHING) & journeys(BYTES(4, 0, 7), 3, 8, DONE(0, 0), NOTHING) &
+                         journeys(BYTES(2, 0, 7, 0), 200, 8, REFUSED(5, 1, 0)) &
+                         journeys(BYTES(2, 0, 7, 5, 1, 2, 0), 0, 8, REFUSED(14, 1, 0)) &
+                         journeys(BYTES(2, 0, 7, 0), 0, 8, REFUSED(1, 1, 0)) &
+                         journeys(BYTES(2, 0, 200), 0, 8, REFUSED(5, 0, 0)) & journeys(BYTES(2, 7, 7), 0, 8, REFUSED(6, 0, 0)) &
+                         journeys(BYTES(4, 0, 7, 4, 1, 2), 0, 8, REFUSED(7, 1, 0)) &
+                         journeys_for(TWO_CREWS, 1, RISING, BYTES(4, 0, 7, 1, 2, 3), 0, 12, DONE(4, 0),
+                                      BYTES(0, 0, 2, 0, 2, 3, 1, 3, 0, 1, 0, 7)) &
+                         journeys_for(PORTER, 0, NOTHING, BYTES(9), 200, 0, REFUSED(9, 0, 1)) &
+                         journeys_for(RING_WANTING(1), 0, BYTES(0, 1), BYTES(9), 200, 0, REFUSED(12, 0, 0)) &
+                         journeys_for(PORTER_WITHOUT_SEED, 0, NOTHING, NOTHING, 200, 0, REFUSED(5, 50, 0)));
   report("single records", record_at(PORTER, 18, (marrowkite_record){0, 3, 19, 2, 21}) &
                                record_at(PORTER, 55, (marrowkite_record){0, 6, 56, 0, 56}) &
                                record_at(PORTER, 0, (marrowkite_record){0, 1, 1, 1, 2}) &

@@ -7,6 +7,7 @@
 //     write ROOM SITUATION V A C K T   a file from lists, which are the file's bytes: V of variables, then A of actions,
 //                                      C of conditions, K of crews, T of tasks
 //     report ROOM CREW FIRST COUNT   on so many seeds from a first one on
+//     journeys ROOM CREW START F R   of the file's bytes F are the file, R behind them the ranks, and the rest the rides
 use crate::show;
 use crate::words::bytes;
 use crate::words::front;
@@ -28,6 +29,8 @@ const DRAW: u64 = 0x64726177;
 const WRITE: u64 = 0x7772697465;
 
 const REPORT: u64 = 0x7265706f7274;
+
+const JOURNEYS: u64 = 0x6a6f75726e657973;
 
 // Makes the call of this word, if it is one of these, and answers whether it is.
 pub(crate) fn lend(word: u64, line: &[u8], file: &[u8], buffer: &mut [u8]) -> bool {
@@ -69,6 +72,7 @@ fn call(word: u64, line: &[u8], file: &[u8], list: &[u8], room: &mut [u8]) -> bo
         DRAW => show::answers(draw::draw(number(line, 2), number(line, 3), room)),
         WRITE => show::answers(write(line, file, room)),
         REPORT => show::answers(report(line, file, room)),
+        JOURNEYS => show::answers(journeys(line, file, room)),
         _ => return false,
     }
     true
@@ -80,6 +84,20 @@ fn report(line: &[u8], file: &[u8], room: &mut [u8]) -> Answer {
         number(line, 2),
         number(line, 3),
         number(line, 4),
+        room,
+    )
+}
+
+fn journeys(line: &[u8], bytes: &[u8], room: &mut [u8]) -> Answer {
+    let len = number(line, 4) as usize;
+    let ranked = number(line, 5) as usize;
+    let lists = rest(bytes, len);
+    dispatcher::journeys(
+        front(bytes, len),
+        number(line, 2),
+        front(lists, ranked),
+        rest(lists, ranked),
+        number(line, 3),
         room,
     )
 }

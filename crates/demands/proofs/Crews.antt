@@ -24,6 +24,9 @@ use Rattle.charts.proofs.Settled.{chart-settled}
 use Rattle.replays.specs.Replay.{replayed, replayAnswer, replayLeaves}
 use Rattle.replays.proofs.Refusals.{replayed-refused}
 use Rattle.replays.proofs.Settled.{replay-settles}
+use Rattle.journeys.specs.Planned.{no-plan}
+use Rattle.journeys.specs.Allowed.{Travels, JourneysAllows}
+use Rattle.journeys.proofs.Settled.{journeys-settles}
 use Rattle.demands.specs.Words.{LoadsAs, LoadsFor}
 use Rattle.demands.specs.Crews.{Agree, Alike, AlikeOne, AnsweredAlike, RefusedWith, alone}
 
@@ -85,12 +88,20 @@ agreeing-are-answered-alike {f} {g} {c} {d} a =
       report = λ first n before. said-alike (λ s. ReportsOn s first n before) e (report-settles f c first n before);
       chart = λ actions pairs. said-alike-one (λ s. ChartsFile s (chartOf actions pairs)) e (chart-settled f c actions pairs);
       replay = λ log before. said-alike (λ s. ReplayOn s log before) e (replay-settles f c log before);
+      journeys = λ ranks rides start before. said-alike (λ s. Travels s ranks rides start before) e (journeys-settles f c ranks rides start before);
     }
 
 -- ---- refusals before planning, running and reporting
 
 only-exactly : (answer : Answer) (bytes : List ℕ) → AllowsOnly (Exactly answer bytes) answer bytes
 only-exactly answer bytes = record { allowed = (refl, refl); only = λ r after p. p }
+
+journeys-refused :
+    (ranks rides : List ℕ) (start : ℕ) (before : List ℕ) (number place : ℕ) → AllowsOnly (Travels (refused number place) ranks rides start before) (refusal number place) before
+journeys-refused ranks rides start before number place = record {
+  allowed = record { planned = no-plan (refusal number place); comes = refl; travelled = (refl, refl) };
+  only = λ r after t. let e = t .comes in rw e at (t .travelled);
+}
 
 refused-with : (file : List ℕ) (c number place : ℕ) → readingFor file c ≡ refused number place → RefusedWith file c (refusal number place)
 refused-with file c number place e = record {
@@ -100,6 +111,7 @@ refused-with file c number place e = record {
   report = λ first n before. rw e (only-exactly (refusal number place) before);
   chart = λ actions pairs r. rw e ((λ p. p), (λ p. p));
   replay = λ log before. rw (e, replayed-refused number place log) (only-exactly (refusal number place) before);
+  journeys = λ ranks rides start before. rw e (journeys-refused ranks rides start before number place);
 }
 
 -- 22, first the crew's number

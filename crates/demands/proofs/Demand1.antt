@@ -18,10 +18,12 @@ use Rattle.runs.specs.Run.{Ran, endsIn, stops, ran, runAnswer, runLeaves, RunAl
 use Rattle.planning.specs.Planning.{PlansFile, PlanAllows}
 use Rattle.planning.specs.Seeded.{seedRanks, SeededAllows}
 use Rattle.replays.specs.Replay.{ReplayAllows}
-use Rattle.replays.proofs.Settled.{refusal-as-lent}
+use Rattle.replays.proofs.Settled.{refusal-as-lent as replay-as-lent}
 use Rattle.planning.proofs.Exact.{refusal-alters-nothing}
 use Rattle.varied.specs.Report.{ReportAllows}
 use Rattle.varied.proofs.Settled.{report-unaltered}
+use Rattle.journeys.specs.Allowed.{JourneysAllows}
+use Rattle.journeys.proofs.Settled.{refusal-as-lent as journeys-as-lent}
 
 said-unaltered : (said : Said Study) (ranks before : List ℕ) → RefusalAltersNothing (PlansFile said ranks before) before
 said-unaltered (says t) ranks before r after p h = refusal-alters-nothing p h
@@ -65,4 +67,9 @@ refused-report-alters-nothing = report-unaltered
 
 pub refused-replay-alters-nothing :
     (file : List ℕ) (crew : ℕ) (log before : List ℕ) → RefusalAltersNothing (ReplayAllows file crew log before) before
-refused-replay-alters-nothing = refusal-as-lent
+refused-replay-alters-nothing = replay-as-lent
+
+pub refused-journeys-alter-nothing :
+    (file : List ℕ) (crew : ℕ) (ranks rides : List ℕ) (start : ℕ) (before : List ℕ)
+    → RefusalAltersNothing (JourneysAllows file crew ranks rides start before) before
+refused-journeys-alter-nothing = journeys-as-lent

@@ -14,6 +14,7 @@ use Rattle.planning.specs.Seeded.{SeededAllows}
 use Rattle.varied.specs.Report.{ReportAllows}
 use Rattle.charts.specs.Answers.{ChartAllows}
 use Rattle.replays.specs.Replay.{ReplayAllows}
+use Rattle.journeys.specs.Allowed.{JourneysAllows}
 use Rattle.demands.specs.Words.{LoadsAs}
 
 -- both files load and have the crew, c of the one and d of the other; they agree on situation, variables, actions and that crew's tasks and seed
@@ -47,6 +48,8 @@ pub record AnsweredAlike (f : List ℕ) (c : ℕ) (g : List ℕ) (d : ℕ) : Typ
   pub report : (first n : ℕ) (before : List ℕ) → Alike (ReportAllows f c first n before) (ReportAllows g d first n before)
   pub chart : (actions pairs : List ℕ) → AlikeOne (ChartAllows f c actions pairs) (ChartAllows g d actions pairs)
   pub replay : (log before : List ℕ) → Alike (ReplayAllows f c log before) (ReplayAllows g d log before)
+  pub journeys :
+      (ranks rides : List ℕ) (start : ℕ) (before : List ℕ) → Alike (JourneysAllows f c ranks rides start before) (JourneysAllows g d ranks rides start before)
 
 -- every call that names the crew gives this answer and no other, and the buffer is as it was
 pub record RefusedWith (file : List ℕ) (crew : ℕ) (answer : Answer) : Type 0 where
@@ -56,6 +59,7 @@ pub record RefusedWith (file : List ℕ) (crew : ℕ) (answer : Answer) : Type 0
   pub report : (first n : ℕ) (before : List ℕ) → AllowsOnly (ReportAllows file crew first n before) answer before
   pub chart : (actions pairs : List ℕ) (r : Answer) → ChartAllows file crew actions pairs r ↔ (r ≡ answer)
   pub replay : (log before : List ℕ) → AllowsOnly (ReplayAllows file crew log before) answer before
+  pub journeys : (ranks rides : List ℕ) (start : ℕ) (before : List ℕ) → AllowsOnly (JourneysAllows file crew ranks rides start before) answer before
 
 -- a study as the roster of one crew
 abbrev pub alone : Study → Roster

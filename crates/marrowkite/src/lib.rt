@@ -9,6 +9,7 @@ ghost use Rattle.spelling.specs.Write.{WriteAllows};
 ghost use Rattle.varied.specs.Report.{ReportAllows};
 ghost use Rattle.charts.specs.Answers.{ChartAllows};
 ghost use Rattle.replays.specs.Replay.{ReplayAllows};
+ghost use Rattle.journeys.specs.Allowed.{JourneysAllows};
 ghost use Rattle.marrowkite.specs.Told.{RecordAllows};
 use answer::Answer;
 use records::Found;
@@ -144,4 +145,18 @@ pub extern "C" fn marrowkite_replay(
     ensures { λ r. ⌜ ReplayAllows (now (file .entry)) crew (now (log .entry)) (now (occupant .entry)) r (now (occupant .exit)) ⌝ }
 {
     replaying::replay(file, crew, log, occupant)
+}
+
+#[no_mangle]
+pub extern "C" fn marrowkite_journeys(
+    file: &[u8],
+    crew: u64,
+    ranks: &[u8],
+    rides: &[u8],
+    start: u64,
+    journeys: &mut [u8],
+) -> Answer
+    ensures { λ r. ⌜ JourneysAllows (now (file .entry)) crew (now (ranks .entry)) (now (rides .entry)) start (now (journeys .entry)) r (now (journeys .exit)) ⌝ }
+{
+    dispatcher::journeys(file, crew, ranks, rides, start, journeys)
 }

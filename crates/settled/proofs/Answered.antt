@@ -23,6 +23,8 @@ use Rattle.charts.specs.Answers.{ChartAllows}
 use Rattle.charts.proofs.Settled.{chart-answered as charts-answer}
 use Rattle.replays.specs.Replay.{ReplayAllows}
 use Rattle.replays.proofs.Settled.{replay-answers}
+use Rattle.journeys.specs.Allowed.{JourneysAllows}
+use Rattle.journeys.proofs.Settled.{journeys-answers}
 use Rattle.marrowkite.specs.Told.{told, RecordAllows}
 
 -- what is given by equations is allowed
@@ -64,3 +66,7 @@ chart-answered = charts-answer
 
 pub replay-answered : (file : List ℕ) (crew : ℕ) (log before : List ℕ) → Answers (ReplayAllows file crew log before)
 replay-answered = replay-answers
+
+pub journeys-answered :
+    (file : List ℕ) (crew : ℕ) (ranks rides : List ℕ) (start : ℕ) (before : List ℕ) → Answers (JourneysAllows file crew ranks rides start before)
+journeys-answered = journeys-answers

@@ -21,6 +21,8 @@ use Rattle.charts.specs.Answers.{ChartAllows}
 use Rattle.charts.proofs.Settled.{chart-settled as charts-settle}
 use Rattle.replays.specs.Replay.{ReplayAllows}
 use Rattle.replays.proofs.Settled.{replay-settles}
+use Rattle.journeys.specs.Allowed.{JourneysAllows}
+use Rattle.journeys.proofs.Settled.{journeys-settles}
 use Rattle.marrowkite.specs.Told.{RecordAllows}
 
 -- what is given by equations is settled
@@ -59,3 +61,7 @@ chart-settled = charts-settle
 
 pub replay-settled : (file : List ℕ) (crew : ℕ) (log before : List ℕ) → Settles (ReplayAllows file crew log before)
 replay-settled = replay-settles
+
+pub journeys-settled :
+    (file : List ℕ) (crew : ℕ) (ranks rides : List ℕ) (start : ℕ) (before : List ℕ) → Settles (JourneysAllows file crew ranks rides start before)
+journeys-settled = journeys-settles

@@ -1,0 +1,4 @@
+pub mod Plans
+pub mod Settled
+pub mod Made
+pub mod Room

@@ -1,0 +1,3 @@
+pub mod Planned
+pub mod Allowed
+pub mod Made

@@ -1,0 +1,1 @@
+// What making the journeys of a crew's plan answers: definitions and theorems, no code.

@@ -1,0 +1,4 @@
+pub mod Rides
+pub mod Journeys
+pub mod Answers
+pub mod Words

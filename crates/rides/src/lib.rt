@@ -1,0 +1,1 @@
+// What rides and journeys mean: definitions and theorems of lists and floors, nothing of files, no code.

@@ -1,0 +1,5 @@
+pub mod Wrong
+pub mod Entering
+pub mod Steps
+pub mod Placing
+pub mod Laying
