@@ -2,7 +2,6 @@
 ghost use mathlib.Core.Path.{_≡_};
 ghost use mathlib.Core.List.{List};
 ghost use Prim.Native.Nat.{ℕ};
-ghost use Rattle.answer.specs.Answers.{three};
 ghost use Rattle.study.specs.Study.{Study};
 ghost use Rattle.draw.specs.Draw.{drawn};
 ghost use Rattle.plans.specs.Plans.{StraightPlan};
@@ -13,13 +12,14 @@ ghost use Rattle.stages.specs.Whole.{KnownIn, WalkingIn};
 ghost use Rattle.charts.specs.Charts.{chartOf};
 ghost use Rattle.charts.specs.Answers.{Listed, Charts, ChartAllows};
 ghost use Rattle.listing.specs.Listing.{SetOf};
-ghost use Rattle.charter.specs.Told.{lackTold};
 use answer::Answer;
-use lacking::Lack;
 use linking::Closed;
 use tables::Loaded;
 use tracing::Walked;
 use wanting::Met;
+
+// Up to so many actions a set of actions is one word.
+const FEW: usize = 64;
 
 // At most so many actions and pairs.
 const MOST_ACTIONS: usize = 256;
@@ -28,26 +28,6 @@ const MOST_PAIRS: usize = 4096;
 
 // No action: what `lowest_amiss` answers if none is.
 const NONE: u16 = 256;
-
-fn numbers(number: u64, first: usize, second: usize) -> Answer
-    ensures { λ r. ⌜ r ≡ three number first second ⌝ }
-{
-    Answer {
-        number,
-        first: first as u64,
-        second: second as u64,
-    }
-}
-
-// The lowest direct order that no chain gives; or 0 with how many actions and pairs there are.
-fn told(lack: Lack, actions: usize, pairs: usize) -> Answer
-    ensures { λ r. ⌜ r ≡ lackTold actions pairs lack ⌝ }
-{
-    match lack {
-        Lack::Nothing => numbers(0, actions, pairs),
-        Lack::Two { first, second } => numbers(28, tables::wide(first), tables::wide(second)),
-    }
-}
 
 // The list is in order, and these are its actions: 26, 27, 28, or 0.
 fn vet_pairs(
@@ -72,14 +52,14 @@ fn vet_pairs(
     let many = listing::many_pairs(pairs.len());
     let k = listing::link_all(pairs, listed, &mut rows);
     if k < many {
-        return numbers(26, k, 0);
+        return vetting::numbers(26, k, 0);
     }
     let closed = linking::close(listed, &mut rows);
     let Closed::Chains = closed else {
-        return numbers(27, 0, 0);
+        return vetting::numbers(27, 0, 0);
     };
     let lack = lacking::lowest(file, count, acts, vars, setters, steps, &rows);
-    told(lack, actions.len(), many)
+    vetting::told(lack, actions.len(), many)
 }
 
 // The same; the walks are entered first.
@@ -135,20 +115,20 @@ fn vet(
         → Charts t (chartOf (now (actions .entry)) (now (pairs .entry))) r) ⌝ }
 {
     if MOST_ACTIONS < actions.len() {
-        return numbers(19, actions.len(), 0);
+        return vetting::numbers(19, actions.len(), 0);
     }
     let many = listing::many_pairs(pairs.len());
     if MOST_PAIRS < many {
-        return numbers(19, many, 0);
+        return vetting::numbers(19, many, 0);
     }
     let k = listing::first_unusable(actions, count, acts);
     if k < actions.len() {
-        return numbers(14, k, 0);
+        return vetting::numbers(14, k, 0);
     }
     let mut listed = [0u64; 4];
     let low = listing::lowest_amiss(actions, plan, &mut listed);
     if low < NONE {
-        return numbers(25, low as usize, 0);
+        return vetting::numbers(25, low as usize, 0);
     }
     vet_listed(file, n, count, acts, vars, setters, &listed, actions, pairs)
 }
@@ -216,6 +196,42 @@ fn plan_aside(
     plan_walked(file, &ranks[..count], n, total, acts, vars, &steps, plan)
 }
 
+// What was loaded has many actions: a plan first, then the chart.
+fn chart_many(
+    file: &[u8],
+    seed: u64,
+    n: usize,
+    count: usize,
+    acts: &[[u8; 6]; 256],
+    vars: &[[u8; 3]; 32],
+    setters: &[u8; 512],
+    actions: &[u8],
+    pairs: &[u8],
+) -> Answer
+    requires { ⌜ ((t : Study) × KnownIn (now file) n count seed (now acts) (now vars) (now setters) t) ⌝ }
+    ensures { λ r. ⌜ ((t : Study)
+        → KnownIn (now (file .entry)) n count seed (now (acts .entry)) (now (vars .entry)) (now (setters .entry)) t
+        → Charts t (chartOf (now (actions .entry)) (now (pairs .entry))) r) ⌝ }
+{
+    let mut plan = [0u8; 256];
+    let planned = plan_aside(file, seed, n, count, acts, vars, setters, &mut plan);
+    if planned.number != 0 {
+        return planned;
+    }
+    let len = planned.first as usize;
+    vet(
+        file,
+        n,
+        count,
+        acts,
+        vars,
+        setters,
+        &plan[..len],
+        actions,
+        pairs,
+    )
+}
+
 // Checks a chart: a list of actions and pairs, this before that. Nothing is written.
 pub fn chart(file: &[u8], crew: u64, actions: &[u8], pairs: &[u8]) -> Answer
     ensures { λ r. ⌜ ChartAllows (now (file .entry)) crew (now (actions .entry)) (now (pairs .entry)) r ⌝ }
@@ -232,21 +248,8 @@ pub fn chart(file: &[u8], crew: u64, actions: &[u8], pairs: &[u8]) -> Answer
     else {
         return tables::refused(found);
     };
-    let mut plan = [0u8; 256];
-    let planned = plan_aside(file, seed, n, count, &acts, &vars, &setters, &mut plan);
-    if planned.number != 0 {
-        return planned;
+    if FEW < count {
+        return chart_many(file, seed, n, count, &acts, &vars, &setters, actions, pairs);
     }
-    let len = planned.first as usize;
-    vet(
-        file,
-        n,
-        count,
-        &acts,
-        &vars,
-        &setters,
-        &plan[..len],
-        actions,
-        pairs,
-    )
+    vetting::chart_few(file, n, count, &acts, &vars, &setters, actions, pairs)
 }

@@ -44,6 +44,7 @@ pub fn take(members: u64, total: usize, words: &mut [u64; 128], room: &mut [u8; 
     requires { ⌜ (total ≤ 256) × (length (now words) ≡ 128) × (length (now room) ≡ 512) × Counted (InWord members) total × NoneHung (hungIn (now words)) ⌝ }
     ensures { λ r. ⌜ (r ≤ total) × (length (now (room .exit)) ≡ 512) ⌝ }
     ensures { λ r. ⌜ TakenByName members (beforeIn (now (words .entry))) (now (room .entry)) r (now (room .exit)) ⌝ }
+    ensures { λ r. ⌜ (length (now (words .exit)) ≡ 128) × (beforeIn (now (words .exit)) ≡ beforeIn (now (words .entry))) ⌝ }
 {
     let mut left = members;
     let mut ready = hang_all(left, left, 0, words);

@@ -13,12 +13,16 @@ use Rattle.charts.specs.Faults.{Direct, LowerTwo}
 use Rattle.lacking.specs.declared.Lack.{Lack}
 use Rattle.lacking.specs.declared.Lack.the-variants.{Nothing, Two}
 
--- 28: every direct order is in the rows; or the lowest that is not
-pub data Lacks (t : Study) (rows : Rows) : Lack → Type 0 where
-  nothing : ((i j : ℕ) → Direct t i j → Linked rows i j) → Lacks t rows Nothing
+-- all that are such are linked; or the lowest two that are not
+pub data LacksOf (such linked : ℕ → ℕ → Type 0) : Lack → Type 0 where
+  nothing : ((i j : ℕ) → such i j → linked i j) → LacksOf such linked Nothing
   two :
-      {i j : ℕ} → Direct t i j → (Linked rows i j → ⊥) → ((k l : ℕ) → LowerTwo k l i j → Direct t k l → Linked rows k l)
-      → Lacks t rows (Two i j)
+      {i j : ℕ} → such i j → (linked i j → ⊥) → ((k l : ℕ) → LowerTwo k l i j → such k l → linked k l)
+      → LacksOf such linked (Two i j)
+
+-- 28: every direct order is in the rows; or the lowest that is not
+abbrev pub Lacks : Study → Rows → Lack → Type 0
+Lacks t rows = LacksOf (Direct t) (Linked rows)
 
 -- ---- two actions as one number
 

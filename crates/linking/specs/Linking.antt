@@ -26,9 +26,13 @@ pub record Shaped (rows : Rows) : Type 0 where
 abbrev pub Anyone : ℕ → Type 0
 Anyone x = Unit {0}
 
--- what closing found: each row has all that a chain of links leads to, and none leads back; or there is a circle
-pub data Closes (before after : Rows) : Closed → Type 0 where
+-- what closing links found: what is linked afterwards is what a chain of links leads to, and none leads back; or there is a circle
+pub data ClosesTo (before after : ℕ → ℕ → Type 0) : Closed → Type 0 where
   chains :
-      ((x : ℕ) → OnRing Anyone (Linked before) x → ⊥) → ((x y : ℕ) → Linked after x y ↔ Chain Anyone (Linked before) x y)
-      → Closes before after Chains
-  circle : {x : ℕ} → OnRing Anyone (Linked before) x → Closes before after Circle
+      ((x : ℕ) → OnRing Anyone before x → ⊥) → ((x y : ℕ) → after x y ↔ Chain Anyone before x y)
+      → ClosesTo before after Chains
+  circle : {x : ℕ} → OnRing Anyone before x → ClosesTo before after Circle
+
+-- .. where rows have the links
+abbrev pub Closes : Rows → Rows → Closed → Type 0
+Closes before after = ClosesTo (Linked before) (Linked after)

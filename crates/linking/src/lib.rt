@@ -17,7 +17,7 @@ pub enum Closed {
 const NONE: u16 = 256;
 
 // The bits of x that y has not.
-fn without(x: u64, y: u64) -> u64
+pub fn without(x: u64, y: u64) -> u64
     ensures { λ r. ⌜ ((j : ℕ) → bit r j ≡ (not (bit y j) && bit x j)) ⌝ }
 {
     (x | y) ^ y

@@ -1,7 +1,7 @@
--- The set of a list's numbers and the set of those that stand in it twice, by its first entries, one more in each turn.
+-- The set of a list's numbers and the set of those that stand in it twice, by its first entries, one more in each turn: for any tests, and for sets of four words.
 -- Assumes nothing.
 use mathlib.Core.Path.{_≡_, refl, sym, ap, _∙_}
-use mathlib.Core.Logic.{inl, inr}
+use mathlib.Core.Logic.{inl, inr, _↔_}
 use mathlib.Core.Bool.{Bool, true, false, _||_}
 use mathlib.Core.List.{List, [], _∷_}
 use Prim.Native.Nat.{ℕ, zero, suc, _+_, _≤_, _<_}
@@ -42,41 +42,39 @@ same-test m n = let e : n ≡ n + 0 = omega arith in ap (ltb m) e
 
 -- ---- the sets
 
--- the first k entries
-pub record GatheredSoFar (list set twice : List ℕ) (k : ℕ) : Type 0 where
-  pub long : length set ≡ 4
-  pub long-twice : length twice ≡ 4
+-- the first k entries, by a test of what is there and one of what repeats
+pub record GatheredBy (list : List ℕ) (set twice : ℕ → Bool) (k : ℕ) : Type 0 where
   pub few : k ≤ length list
-  pub there : (i : ℕ) → within set i ≡ ltb 0 (count i (take k list))
-  pub repeated : (i : ℕ) → within twice i ≡ ltb 1 (count i (take k list))
+  pub there : (i : ℕ) → set i ≡ ltb 0 (count i (take k list))
+  pub repeated : (i : ℕ) → twice i ≡ ltb 1 (count i (take k list))
 
-pub none-gathered : {list set twice : List ℕ} → length set ≡ 4 → length twice ≡ 4 → Empty set → Empty twice → GatheredSoFar list set twice 0
-none-gathered long long-twice empty none = record {
-  long = long;
-  long-twice = long-twice;
+pub none-by : {list : List ℕ} {set twice : ℕ → Bool} → ((i : ℕ) → set i ≡ false) → ((i : ℕ) → twice i ≡ false) → GatheredBy list set twice 0
+none-by empty none = record {
   few = omega arith;
   there = λ i. empty i ∙ sym (le-ltb 0 0 (omega arith));
   repeated = λ i. none i ∙ sym (le-ltb 1 0 (omega arith));
 }
 
-module _ {list set twice : List ℕ} {k : ℕ} (g : GatheredSoFar list set twice k) (h : k < length list) where
-  there-next : {set′ : List ℕ} → Added (getD list k 0) set set′ → (i : ℕ) → within set′ i ≡ ltb 0 (count i (take (k + 1) list))
-  there-next added i = added .members i ∙ rw (g .there i, count-next list k i h) (go (eqb (getD list k 0) i) (count i (take k list)))
+-- one test tells a number besides those of the other
+abbrev pub Besides : ℕ → (ℕ → Bool) → (ℕ → Bool) → Type 0
+Besides x f g = (i : ℕ) → g i ≡ (eqb x i || f i)
+
+module _ {list : List ℕ} {set twice : ℕ → Bool} {k : ℕ} (g : GatheredBy list set twice k) (h : k < length list) where
+  there-next : {set′ : ℕ → Bool} → Besides (getD list k 0) set set′ → (i : ℕ) → set′ i ≡ ltb 0 (count i (take (k + 1) list))
+  there-next added i = added i ∙ rw (g .there i, count-next list k i h) (go (eqb (getD list k 0) i) (count i (take k list)))
     where
       go : (b : Bool) (n : ℕ) → (b || ltb 0 n) ≡ ltb 0 (n + one b)
       go true n = sym (lt-ltb 0 (n + 1) (omega arith))
       go false n = same-test 0 n
 
   -- its entry was there, and is put among those that repeat
-  pub again-gathered :
-      {set′ twice′ : List ℕ} → within set (getD list k 0) ≡ true → Added (getD list k 0) set set′ → Added (getD list k 0) twice twice′
-      → GatheredSoFar list set′ twice′ (k + 1)
-  again-gathered {set′} {twice′} was added put = record {
-    long = added .long;
-    long-twice = put .long;
+  pub again-by :
+      {set′ twice′ : ℕ → Bool} → set (getD list k 0) ≡ true → Besides (getD list k 0) set set′ → Besides (getD list k 0) twice twice′
+      → GatheredBy list set′ twice′ (k + 1)
+  again-by {set′} {twice′} was added put = record {
     few = omega arith;
     there = there-next added;
-    repeated = λ i. put .members i ∙ rw (g .repeated i, count-next list k i h) (go i (ℕ-discrete (getD list k 0) i));
+    repeated = λ i. put i ∙ rw (g .repeated i, count-next list k i h) (go i (ℕ-discrete (getD list k 0) i));
   }
     where
       go : (i : ℕ) → Dec (getD list k 0 ≡ i)
@@ -87,11 +85,8 @@ module _ {list set twice : List ℕ} {k : ℕ} (g : GatheredSoFar list set twice
       go i (no d) = rw (ne-eqb (getD list k 0) i d) (same-test 1 (count i (take k list)))
 
   -- its entry is new
-  pub new-gathered :
-      {set′ : List ℕ} → within set (getD list k 0) ≡ false → Added (getD list k 0) set set′ → GatheredSoFar list set′ twice (k + 1)
-  new-gathered {set′} was added = record {
-    long = added .long;
-    long-twice = g .long-twice;
+  pub new-by : {set′ : ℕ → Bool} → set (getD list k 0) ≡ false → Besides (getD list k 0) set set′ → GatheredBy list set′ twice (k + 1)
+  new-by {set′} was added = record {
     few = omega arith;
     there = there-next added;
     repeated = λ i. g .repeated i ∙ rw (count-next list k i h) (go i (ℕ-discrete (getD list k 0) i));
@@ -104,8 +99,10 @@ module _ {list set twice : List ℕ} {k : ℕ} (g : GatheredSoFar list set twice
           (le-ltb 1 (count i (take k list)) (omega arith) ∙ sym (le-ltb 1 (count i (take k list) + 1) (omega arith)))
       go i (no d) = rw (ne-eqb (getD list k 0) i d) (same-test 1 (count i (take k list)))
 
-pub all-gathered : {list set twice : List ℕ} {k : ℕ} → GatheredSoFar list set twice k → length list ≤ k → SetOf list set × RepeatsOf list twice
-all-gathered {list} {set} {twice} {k} g h = (
+pub all-by :
+    {list : List ℕ} {set twice : ℕ → Bool} {k : ℕ} → GatheredBy list set twice k → length list ≤ k
+    → ((i : ℕ) → (set i ≡ true) ↔ In i list) × ((i : ℕ) → (twice i ≡ true) ↔ (1 < count i list))
+all-by {list} {set} {twice} {k} g h = (
   λ i. (
     λ w. counted-in i list (ltb-true 0 (count i list) (sym (there i) ∙ w)),
     λ l. there i ∙ lt-ltb 0 (count i list) (in-counted i list l),
@@ -116,8 +113,31 @@ all-gathered {list} {set} {twice} {k} g h = (
     e : k ≡ length list
     e = omega (arith, g .few)
 
-    there : (i : ℕ) → within set i ≡ ltb 0 (count i list)
+    there : (i : ℕ) → set i ≡ ltb 0 (count i list)
     there i = rw (e, take-length) at (g .there i)
 
-    repeated : (i : ℕ) → within twice i ≡ ltb 1 (count i list)
+    repeated : (i : ℕ) → twice i ≡ ltb 1 (count i list)
     repeated i = rw (e, take-length) at (g .repeated i)
+
+-- ---- sets of four words
+
+pub record GatheredSoFar (list set twice : List ℕ) (k : ℕ) : Type 0 where
+  pub long : length set ≡ 4
+  pub long-twice : length twice ≡ 4
+  pub by : GatheredBy list (within set) (within twice) k
+
+pub none-gathered : {list set twice : List ℕ} → length set ≡ 4 → length twice ≡ 4 → Empty set → Empty twice → GatheredSoFar list set twice 0
+none-gathered long long-twice empty none = record { long = long; long-twice = long-twice; by = none-by empty none }
+
+module _ {list set twice : List ℕ} {k : ℕ} (g : GatheredSoFar list set twice k) (h : k < length list) where
+  pub again-gathered :
+      {set′ twice′ : List ℕ} → within set (getD list k 0) ≡ true → Added (getD list k 0) set set′ → Added (getD list k 0) twice twice′
+      → GatheredSoFar list set′ twice′ (k + 1)
+  again-gathered was added put = record { long = added .long; long-twice = put .long; by = again-by (g .by) h was (added .members) (put .members) }
+
+  pub new-gathered :
+      {set′ : List ℕ} → within set (getD list k 0) ≡ false → Added (getD list k 0) set set′ → GatheredSoFar list set′ twice (k + 1)
+  new-gathered was added = record { long = added .long; long-twice = g .long-twice; by = new-by (g .by) h was (added .members) }
+
+pub all-gathered : {list set twice : List ℕ} {k : ℕ} → GatheredSoFar list set twice k → length list ≤ k → SetOf list set × RepeatsOf list twice
+all-gathered g h = all-by (g .by) h

@@ -1,6 +1,6 @@
--- One pass over the pairs: those passed are not astray, and are in the rows.
+-- One pass over the pairs: those passed are not astray, and just they are linked; for any links, and for rows.
 -- Assumes nothing.
-use mathlib.Core.Path.{_≡_, refl, sym, subst, _∙_}
+use mathlib.Core.Path.{_≡_, refl, sym, _∙_}
 use mathlib.Core.Logic.{_⊎_, inl, inr, _≢_, _↔_}
 use mathlib.Core.Bool.{Bool, true, false, not, true≢false}
 use mathlib.Core.List.{List, [], _∷_, _++_}
@@ -13,23 +13,25 @@ use lib.Seq.{take-suc, take-length, getD-set-same, getD-set-other}
 use borrow.Author.Count.{below-more}
 use Rattle.bits.specs.Bits.{within, Added}
 use Rattle.bits.proofs.Members.{added-there, added-keeps, added-only, not-both}
+use Rattle.orders.specs.Orders.{In}
 use Rattle.charts.specs.Charts.{Pair, Paired, pair, pairsOf}
 use Rattle.charts.specs.Faults.{Astray, this-unlisted, that-unlisted, itself, pairAt}
-use Rattle.linking.specs.Linking.{Rows, Shaped}
-use Rattle.listing.specs.Listing.{SetOf, AllEmpty, RowsOf, TellsStray, Links}
+use Rattle.linking.specs.Linking.{Rows, Linked, Shaped}
+use Rattle.listing.specs.Listing.{LinkedBy, TellsStray, LinksTo}
 use Rattle.listing.proofs.Pairs.{length-pairs, pair-at, lone-pair}
 
 -- ---- one pair
 
-module _ (list listed : List ℕ) (is : SetOf list listed) {x y : ℕ} where
+-- a test tells what is listed
+module _ (list : List ℕ) (listed : ℕ → Bool) (is : (i : ℕ) → (listed i ≡ true) ↔ In i list) {x y : ℕ} where
   pub stray-same : x ≡ y → TellsStray list (pair x y) true
   stray-same e = record { astray = λ _. itself e; fine = λ f. absurd (true≢false f) }
 
-  pub stray-first : within listed x ≡ false → TellsStray list (pair x y) true
+  pub stray-first : listed x ≡ false → TellsStray list (pair x y) true
   stray-first out = record { astray = λ _. this-unlisted (λ h. not-both (is x .1 h) out); fine = λ f. absurd (true≢false f) }
 
   -- where the first is listed and another, the second tells
-  pub second-told : x ≢ y → within listed x ≡ true → (r : Bool) → r ≡ within listed y → TellsStray list (pair x y) (not r)
+  pub second-told : x ≢ y → listed x ≡ true → (r : Bool) → r ≡ listed y → TellsStray list (pair x y) (not r)
   second-told apart one true e = record { astray = λ f. absurd (true≢false (sym f)); fine = λ _. go }
     where
       go : Astray list (pair x y) → ⊥
@@ -55,55 +57,40 @@ paired-cases [] p x y (inr h) = absurd h
 paired-cases (r ∷ ps) p x y (inl h) = inl (inl h)
 paired-cases (r ∷ ps) p x y (inr h) = elim (paired-cases ps p x y h) [ inl g ↦ inl (inr g) | inr g ↦ inr g ]
 
-rows-more :
-    (ps : List Pair) (rows : Rows) (row : List ℕ) (x y : ℕ) → x < length rows → RowsOf ps rows → Added y (getD rows x []) row
-    → RowsOf (ps ++ (pair x y ∷ [])) (set rows x row)
-rows-more ps rows row x y h is added a b = go (ℕ-discrete a x)
+-- links with 'x before y' besides
+abbrev pub OneMore : (x y : ℕ) → (linked linked′ : ℕ → ℕ → Type 0) → Type 0
+OneMore x y linked linked′ = (a b : ℕ) → linked′ a b ↔ (linked a b ⊎ ((x ≡ a) × (y ≡ b)))
+
+linked-more :
+    (ps : List Pair) {linked linked′ : ℕ → ℕ → Type 0} (x y : ℕ) → LinkedBy ps linked → OneMore x y linked linked′
+    → LinkedBy (ps ++ (pair x y ∷ [])) linked′
+linked-more ps {linked} {linked′} x y is more a b = (λ l. there (more a b .0 l), λ p. more a b .1 (back (paired-cases ps (pair x y) a b p)))
   where
-    from : Paired ps a b ⊎ ((x ≡ a) × (y ≡ b)) → a ≢ x → Paired ps a b
-    from (inl p) d = p
-    from (inr (e, f)) d = absurd (d (sym e))
+    there : linked a b ⊎ ((x ≡ a) × (y ≡ b)) → Paired (ps ++ (pair x y ∷ [])) a b
+    there (inl l) = paired-left ps (pair x y) a b (is a b .0 l)
+    there (inr (e, f)) = rw (← e, ← f) (paired-last ps (pair x y))
 
-    own : within row b ≡ true ↔ Paired (ps ++ (pair x y ∷ [])) x b
-    own = (
-      λ w. elim (added-only added b w) [ inl g ↦ paired-left ps (pair x y) x b (is x b .0 g) | inr e ↦ subst (λ (z : ℕ). Paired (ps ++ (pair x y ∷ [])) x z) e (paired-last ps (pair x y)) ],
-      λ p. elim (paired-cases ps (pair x y) x b p) [ inl g ↦ added-keeps added b (is x b .1 g) | inr g ↦ rw (g .1) at (added-there added) ],
-    )
-
-    go : Dec (a ≡ x) → (within (getD (set rows x row) a []) b ≡ true) ↔ Paired (ps ++ (pair x y ∷ [])) a b
-    go (yes e) = rw (e, getD-set-same rows x row [] h) own
-    go (no d) = rw (getD-set-other rows x a row [] d) (
-      λ w. paired-left ps (pair x y) a b (is a b .0 w),
-      λ p. is a b .1 (from (paired-cases ps (pair x y) a b p) d),
-    )
-
-shaped-kept : (rows : Rows) (x : ℕ) (row : List ℕ) → x < 256 → Shaped rows → length row ≡ 4 → Shaped (set rows x row)
-shaped-kept rows x row low shaped four = record { long = length-set rows x row ∙ shaped .long; fours = λ a h. go a h (ℕ-discrete a x) }
-  where
-    go : (a : ℕ) → a < 256 → Dec (a ≡ x) → length (getD (set rows x row) a []) ≡ 4
-    go a h (yes e) = rw (e, getD-set-same rows x row [] (omega (arith, shaped .long))) four
-    go a h (no d) = rw (getD-set-other rows x a row [] d) (shaped .fours a h)
+    back : Paired ps a b ⊎ ((x ≡ a) × (y ≡ b)) → linked a b ⊎ ((x ≡ a) × (y ≡ b))
+    back (inl p) = inl (is a b .1 p)
+    back (inr e) = inr e
 
 -- ---- where the pass stands
 
-pub record LinkedSoFar (bytes listed : List ℕ) (rows : Rows) (at k : ℕ) : Type 0 where
-  pub shaped : Shaped rows
+pub record PassedTo (bytes : List ℕ) (holds : List ℕ → Type 0) (linked : ℕ → ℕ → Type 0) (at k : ℕ) : Type 0 where
   pub is-at : at ≡ 2 * k
   pub fits : at ≤ length bytes
-  pub fine : (list : List ℕ) → SetOf list listed → (j : ℕ) → j < k → Astray list (pairAt (pairsOf bytes) j) → ⊥
-  pub linked : RowsOf (take k (pairsOf bytes)) rows
+  pub fine : (list : List ℕ) → holds list → (j : ℕ) → j < k → Astray list (pairAt (pairsOf bytes) j) → ⊥
+  pub by-pairs : LinkedBy (take k (pairsOf bytes)) linked
 
-pub none-linked : {bytes listed : List ℕ} {rows : Rows} → Shaped rows → AllEmpty rows → LinkedSoFar bytes listed rows 0 0
-none-linked shaped empty = record {
-  shaped = shaped;
+pub none-passed : {bytes : List ℕ} {holds : List ℕ → Type 0} {linked : ℕ → ℕ → Type 0} → ((x y : ℕ) → linked x y → ⊥) → PassedTo bytes holds linked 0 0
+none-passed none = record {
   is-at = omega arith;
   fits = omega arith;
   fine = λ list is j h. absurd (omega arith);
-  linked = λ x y. (λ w. absurd (not-both w (empty x y)), λ p. absurd p);
+  by-pairs = λ x y. (λ l. absurd (none x y l), λ p. absurd p);
 }
 
-module _
-    {bytes listed : List ℕ} {rows : Rows} {at k : ℕ} (under : LinkedSoFar bytes listed rows at k) where
+module _ {bytes : List ℕ} {holds : List ℕ → Type 0} {linked : ℕ → ℕ → Type 0} {at k : ℕ} (under : PassedTo bytes holds linked at k) where
   module _ (h : at + 1 < length bytes) where
     there : k < length (pairsOf bytes)
     there = omega (arith, length-pairs bytes, under .is-at)
@@ -112,43 +99,42 @@ module _
     here = pair-at bytes k at (under .is-at) h
 
     pub breaks-off :
-        ((list : List ℕ) → SetOf list listed → TellsStray list (pair (getD bytes at 0) (getD bytes (at + 1) 0)) true)
-        → (list : List ℕ) → SetOf list listed → Links list (pairsOf bytes) rows k
+        ((list : List ℕ) → holds list → TellsStray list (pair (getD bytes at 0) (getD bytes (at + 1) 0)) true)
+        → (list : List ℕ) → holds list → LinksTo list (pairsOf bytes) linked k
     breaks-off stray list is = record {
       most = omega (arith, there);
       first = λ _. record { there = there; astray = rw here (stray list is .astray refl); before = under .fine list is };
       none = λ e. absurd (omega (arith, there));
-      linked = λ e. absurd (omega (arith, there));
+      by-pairs = λ e. absurd (omega (arith, there));
     }
 
     pub goes-on :
-        {x : ℕ} {row : List ℕ} → x ≡ getD bytes at 0 → x < 256
-        → ((list : List ℕ) → SetOf list listed → TellsStray list (pair (getD bytes at 0) (getD bytes (at + 1) 0)) false)
-        → Added (getD bytes (at + 1) 0) (getD rows x []) row
-        → LinkedSoFar bytes listed (set rows x row) (at + 2) (k + 1)
-    goes-on {x} {row} is-x low fine added = record {
-      shaped = shaped-kept rows x row low (under .shaped) (added .long);
+        {linked′ : ℕ → ℕ → Type 0}
+        → ((list : List ℕ) → holds list → TellsStray list (pair (getD bytes at 0) (getD bytes (at + 1) 0)) false)
+        → OneMore (getD bytes at 0) (getD bytes (at + 1) 0) linked linked′
+        → PassedTo bytes holds linked′ (at + 2) (k + 1)
+    goes-on fine more = record {
       is-at = omega (arith, under .is-at);
       fits = omega arith;
       fine =
           λ list is. below-more (λ j. Astray list (pairAt (pairsOf bytes) j) → ⊥) k (under .fine list is)
           (rw here (fine list is .fine refl));
-      linked =
-          rw (add-one k, take-suc (pairsOf bytes) k (pair 0 0) there, here, ← is-x)
-          (rows-more (take k (pairsOf bytes)) rows row x (getD bytes (at + 1) 0) (omega (arith, under .shaped .long)) (under .linked) added);
+      by-pairs =
+          rw (add-one k, take-suc (pairsOf bytes) k (pair 0 0) there, here)
+          (linked-more (take k (pairsOf bytes)) (getD bytes at 0) (getD bytes (at + 1) 0) (under .by-pairs) more);
     }
 
-  pub ends : length bytes ≤ at + 1 → (list : List ℕ) → SetOf list listed → Links list (pairsOf bytes) rows k
+  pub ends : length bytes ≤ at + 1 → (list : List ℕ) → holds list → LinksTo list (pairsOf bytes) linked k
   ends h list is = go (ℕ-discrete at (length bytes))
     where
-      go : Dec (at ≡ length bytes) → Links list (pairsOf bytes) rows k
+      go : Dec (at ≡ length bytes) → LinksTo list (pairsOf bytes) linked k
       go (yes e) =
           let all : k ≡ length (pairsOf bytes) = omega (arith, length-pairs bytes, under .is-at) in
           record {
             most = omega arith;
             first = λ l. absurd (omega arith);
             none = λ _ j l. under .fine list is j (omega arith);
-            linked = λ _. rw (all, take-length) at (under .linked);
+            by-pairs = λ _. rw (all, take-length) at (under .by-pairs);
           }
       go (no d) =
           let lone : at + 1 ≡ length bytes = omega (arith, under .fits) in
@@ -161,5 +147,28 @@ module _
               before = under .fine list is;
             };
             none = λ e. absurd (omega arith);
-            linked = λ e. absurd (omega arith);
+            by-pairs = λ e. absurd (omega arith);
           }
+
+-- ---- one pair more in the rows
+
+pub rows-more :
+    (rows : Rows) (row : List ℕ) (x y : ℕ) → x < length rows → Added y (getD rows x []) row → OneMore x y (Linked rows) (Linked (set rows x row))
+rows-more rows row x y h added a b = go (ℕ-discrete a x)
+  where
+    own : (within row b ≡ true) ↔ ((within (getD rows x []) b ≡ true) ⊎ ((x ≡ x) × (y ≡ b)))
+    own = (
+      λ w. elim (added-only added b w) [ inl g ↦ inl g | inr e ↦ inr (refl, e) ],
+      λ p. elim p [ inl g ↦ added-keeps added b g | inr g ↦ rw (g .1) at (added-there added) ],
+    )
+
+    go : Dec (a ≡ x) → (within (getD (set rows x row) a []) b ≡ true) ↔ ((within (getD rows a []) b ≡ true) ⊎ ((x ≡ a) × (y ≡ b)))
+    go (yes e) = rw (e, getD-set-same rows x row [] h) own
+    go (no d) = rw (getD-set-other rows x a row [] d) (λ w. inl w, λ p. elim p [ inl g ↦ g | inr g ↦ absurd (d (sym (g .0))) ])
+
+pub shaped-kept : (rows : Rows) (x : ℕ) (row : List ℕ) → x < 256 → Shaped rows → length row ≡ 4 → Shaped (set rows x row)
+shaped-kept rows x row low shaped four = record { long = length-set rows x row ∙ shaped .long; fours = λ a h. go a h (ℕ-discrete a x) }
+  where
+    go : (a : ℕ) → a < 256 → Dec (a ≡ x) → length (getD (set rows x row) a []) ≡ 4
+    go a h (yes e) = rw (e, getD-set-same rows x row [] (omega (arith, shaped .long))) four
+    go a h (no d) = rw (getD-set-other rows x a row [] d) (shaped .fours a h)

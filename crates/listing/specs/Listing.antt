@@ -53,18 +53,22 @@ pub record FindsAmiss (t : Study) (list : List ℕ) (r : ℕ) : Type 0 where
 abbrev pub AllEmpty : Rows → Type 0
 AllEmpty rows = (x y : ℕ) → within (getD rows x []) y ≡ false
 
--- a link leads from x to y just where 'x before y' is among the pairs
-abbrev pub RowsOf : List Pair → Rows → Type 0
-RowsOf pairs rows = (x y : ℕ) → Linked rows x y ↔ Paired pairs x y
+-- just those are linked of which 'x before y' is among the pairs
+abbrev pub LinkedBy : List Pair → (ℕ → ℕ → Type 0) → Type 0
+LinkedBy pairs linked = (x y : ℕ) → linked x y ↔ Paired pairs x y
 
 -- a test tells whether a pair is astray
 pub record TellsStray (list : List ℕ) (p : Pair) (r : Bool) : Type 0 where
   pub astray : r ≡ true → Astray list p
   pub fine : r ≡ false → Astray list p → ⊥
 
--- 26: the first pair that is astray; or how many pairs there are, and each is in the rows
-pub record Links (list : List ℕ) (pairs : List Pair) (rows : Rows) (r : ℕ) : Type 0 where
+-- 26: the first pair that is astray; or how many pairs there are, and just they are linked
+pub record LinksTo (list : List ℕ) (pairs : List Pair) (linked : ℕ → ℕ → Type 0) (r : ℕ) : Type 0 where
   pub most : r ≤ length pairs
   pub first : r < length pairs → FirstAstray list pairs r
   pub none : r ≡ length pairs → NoneAstray list pairs
-  pub linked : r ≡ length pairs → RowsOf pairs rows
+  pub by-pairs : r ≡ length pairs → LinkedBy pairs linked
+
+-- .. where rows have the links
+abbrev pub Links : List ℕ → List Pair → Rows → ℕ → Type 0
+Links list pairs rows = LinksTo list pairs (Linked rows)

@@ -9,7 +9,7 @@ use Rattle.walks.proofs.Ordered.{straight-walks}
 use Rattle.charts.specs.Charts.{Chart, chartOf}
 use Rattle.charts.specs.Answers.{too-many-actions, too-many-pairs}
 use Rattle.charter.proofs.Known.{known-force}
-use Rattle.charter.proofs.Vetting.{straight-stands, found-unusable, found-amiss, found-listed}
+use Rattle.vetting.proofs.Vetting.{straight-stands, found-unusable, found-amiss, found-listed}
 use borrow.Author.Needs.{needs}
 use Rattle.charter.proofs.vet.Statement.{statement}
 use Rattle.charter.proofs.vet.Tie as tie

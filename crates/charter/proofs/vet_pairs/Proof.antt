@@ -9,7 +9,7 @@ use Rattle.walks.proofs.Ordered.{straight-met}
 use Rattle.listing.specs.Listing.{Links}
 use Rattle.charts.specs.Charts.{Chart, chartOf}
 use Rattle.charter.proofs.Fresh.{fresh-shaped, fresh-all-empty}
-use Rattle.charter.proofs.Pairing.{links-leave, linked-astray, ring-charts, closed-charts}
+use Rattle.vetting.proofs.Pairing.{links-leave, linked-astray, ring-charts, closed-charts}
 use borrow.Author.Needs.{needs}
 use Rattle.charter.proofs.vet_pairs.Statement.{statement}
 use Rattle.charter.proofs.vet_pairs.Tie as tie
@@ -51,8 +51,8 @@ close-requires c κs =
     let s = start-of l in
     let all = all-of l (omega arith) in (
       l .link-all .ensures .0,
-      links-leave (chart-of l .pairs) (l .link-all .last .1 .1 .0) (links-of l .linked all) (now (s .args .actions))
-          (now (s .args .listed)) (s .pre .0) (links-of l .none all),
+      λ x y link.
+          s .pre .0 x .1 (links-leave (chart-of l .pairs) (links-of l .by-pairs all) (now (s .args .actions)) (links-of l .none all) x y link),
     )
 
 enum-told : tie.Need-enum-told
@@ -69,7 +69,7 @@ returns-2 c t orderable listed =
     let d = c .before .before .before in
     let l = d .before .before .before in
     rw (c .numbers2 .ensures)
-    (ring-charts (chart-of l) _ (links-of l) (all-of l (omega arith)) (d .close .ensures .1) (c .before .enum-told2 .given .1) listed)
+    (ring-charts (chart-of l) (links-of l) (all-of l (omega arith)) (d .close .ensures .1) (c .before .enum-told2 .given .1) listed)
 
 lowest-requires : tie.Need-lowest-requires
 lowest-requires c κs = start-of (c .before .before .before .before .before .before) .pre .1
@@ -84,7 +84,7 @@ returns-3 c t orderable listed =
     let l = d .before .before .before in
     let met = straight-met (orderable .wishes .lawful) (listed .usably .within .plannable .1) in
     rw (c .told .ensures, ← many-of l)
-    (closed-charts (chart-of l) _ (links-of l) (all-of l (omega arith)) listed (d .close .ensures .1) (w .before .before .enum-told .given .1)
+    (closed-charts (chart-of l) (links-of l) (all-of l (omega arith)) listed (d .close .ensures .1) (w .before .before .enum-told .given .1)
     (w .lowest .ensures t orderable met))
 
 pub vet-pairs-spec : {M : Type 1} → statement M

@@ -39,8 +39,11 @@ returns c =
     let inv = c .before .before .loop .inv in
     let (list, (going, names)) = inv .3 in (
       (inv .0, names .long),
-      rw (← c .before .before .before .hang-all .ensures .0 .1)
-          record { list = list; greedy = ends-none-ready going (c .if1 .taken); named = names .names },
+      (
+        rw (← c .before .before .before .hang-all .ensures .0 .1)
+            record { list = list; greedy = ends-none-ready going (c .if1 .taken); named = names .names },
+        (inv .1, inv .2 ∙ c .before .before .before .hang-all .ensures .0 .1),
+      ),
     )
 
 lowest-requires : tie.Need-lowest-requires Inv-loop μ-loop
@@ -107,12 +110,15 @@ returns-2 c =
     let inv = c .before .loop .inv in
     let (list, (going, names)) = inv .3 in (
       (inv .0, names .long),
-      rw (← c .before .before .hang-all .ensures .0 .1)
-          record {
-            list = list;
-            greedy = ends-all-taken going (c .before .before .before .before .pre .3) (omega (arith, names .count));
-            named = names .names;
-          },
+      (
+        rw (← c .before .before .hang-all .ensures .0 .1)
+            record {
+              list = list;
+              greedy = ends-all-taken going (c .before .before .before .before .pre .3) (omega (arith, names .count));
+              named = names .names;
+            },
+        (inv .1, inv .2 ∙ c .before .before .hang-all .ensures .0 .1),
+      ),
     )
 
 pub take-spec : {M : Type 1} → statement M

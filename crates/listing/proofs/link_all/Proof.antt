@@ -3,19 +3,22 @@
 use Prim.Native.Nat.{_-_}
 use native.Mathlib.Omega.{arith}
 use lib.ListN.{length}
-use Rattle.listing.proofs.Linking.{LinkedSoFar, none-linked, breaks-off, goes-on, ends}
+use Rattle.bits.proofs.Members.{not-both}
+use Rattle.linking.specs.Linking.{Linked, Shaped}
+use Rattle.listing.specs.Listing.{SetOf}
+use Rattle.listing.proofs.Linking.{PassedTo, none-passed, breaks-off, goes-on, ends, rows-more, shaped-kept}
 use borrow.Author.Needs.{needs}
 use Rattle.listing.proofs.link_all.Statement.{statement}
 use Rattle.listing.proofs.link_all.Tie as tie
 
 abbrev Inv-loop : tie.InvT-loop
-Inv-loop pairs listed rows₀ at₀ k₀ rows at k = LinkedSoFar pairs listed rows at k
+Inv-loop pairs listed rows₀ at₀ k₀ rows at k = Shaped rows × PassedTo pairs (λ list. SetOf list listed) (Linked rows) at k
 
 abbrev μ-loop : tie.MeasureT-loop
 μ-loop pairs listed rows₀ at₀ k₀ rows at k = length pairs - at
 
 loop-holds : tie.Need-loop-holds Inv-loop μ-loop
-loop-holds c = none-linked (c .before .pre .0) (c .before .pre .1)
+loop-holds c = (c .before .pre .0, none-passed (λ x y w. not-both w (c .before .pre .1 x y)))
 
 sub-loop : tie.Need-sub-loop Inv-loop μ-loop
 sub-loop c = search needs
@@ -37,7 +40,7 @@ returns c =
     let s = c .before in
     let d = s .before .before .before in
     let u = d .before .loop .inv in
-    (u .shaped, breaks-off u (omega arith) (rw (c .if1 .taken) at (s .stray .ensures)))
+    (u .0, breaks-off (u .1) (omega arith) (rw (c .if1 .taken) at (s .stray .ensures)))
 
 wide-requires : tie.Need-wide-requires Inv-loop μ-loop
 wide-requires c κs = search needs
@@ -51,7 +54,7 @@ index-1-add c = search needs
 add-requires : tie.Need-add-requires Inv-loop μ-loop
 add-requires c κs =
     let w = c .before in
-    w .before .before .before .before .before .before .loop .inv .shaped .fours _ (w .wide .ensures .1)
+    w .before .before .before .before .before .before .loop .inv .0 .fours _ (w .wide .ensures .1)
 
 add-at : tie.Need-add-at Inv-loop μ-loop
 add-at c = search needs
@@ -67,10 +70,15 @@ loop-again c =
     let w = c .before .before in
     let s = w .before .before in
     let d = s .before .before .before in
-    goes-on (d .before .loop .inv) (omega arith) (w .wide .ensures .0) (w .wide .ensures .1) (rw (w .before .if1 .left) at (s .stray .ensures)) (c .add .ensures)
+    let (shaped, passed) = d .before .loop .inv in
+    let rows = d .before .loop .rows in (
+      shaped-kept rows (w .wide .result) _ (w .wide .ensures .1) shaped (c .add .ensures .long),
+      goes-on passed (omega arith) (rw (w .before .if1 .left) at (s .stray .ensures))
+          (rw (← w .wide .ensures .0) (rows-more rows _ (w .wide .result) _ (omega (arith, w .wide .ensures .1, shaped .long)) (c .add .ensures))),
+    )
 
 returns-2 : tie.Need-returns-2 Inv-loop μ-loop
-returns-2 c = let u = c .before .loop .inv in (u .shaped, ends u (omega arith))
+returns-2 c = let u = c .before .loop .inv in (u .0, ends (u .1) (omega arith))
 
 pub link-all-spec : {M : Type 1} → statement M
 link-all-spec =

@@ -2,7 +2,7 @@
 -- Assumes nothing.
 use borrow.Author.Needs.{needs}
 use Rattle.bits.proofs.Members.{fresh-empty}
-use Rattle.listing.proofs.Amiss.{Compared, finds}
+use Rattle.listing.proofs.Amiss.{member-low, finds}
 use Rattle.listing.proofs.lowest_amiss.Statement.{statement}
 use Rattle.listing.proofs.lowest_amiss.Tie as tie
 
@@ -25,21 +25,18 @@ returns c =
     let d = c .before .before in
     let p = d .before .before .before .before in
     let g = p .before .before .before in
-    let a = g .before .before .before .before .before .args in
     let one = g .gather .ensures in
     let other = p .gather2 .ensures in (
       (one .0 .0, one .1 .0),
       λ t on all.
-          finds {plan = a .plan .now} (record {
-            size = one .0 .0;
-            plan-size = other .0 .0;
+          finds record {
+            listed-low = member-low _ (one .0 .0);
+            walking-low = member-low _ (other .0 .0);
             set = one .1 .0;
             again = one .1 .1;
-            plans = other .1 .0;
+            walks = λ i. (λ w. on i (other .1 .0 i .0 w), λ o. other .1 .0 i .1 (all i o));
             differ = d .differ .ensures .1;
-            on = on;
-            all = all;
-          }) (c .least .ensures),
+          } record { most = c .least .ensures .most; there = c .least .ensures .there; none-below = c .least .ensures .none-below },
     )
 
 pub lowest-amiss-spec : {M : Type 1} → statement M

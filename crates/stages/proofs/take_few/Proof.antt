@@ -30,7 +30,7 @@ returns c =
     let s = m .before .before .before in (
       c .take .ensures .0,
       λ t list orderly ordered.
-          orderly-taken orderly list _ _ (taken-greedily orderly list (s .pre .2) ordered (m .name-all .ensures .1 (list-apart list)) (c .take .ensures .1)),
+          orderly-taken orderly list _ _ (taken-greedily orderly list (s .pre .2) ordered (m .name-all .ensures .1 (list-apart list)) (c .take .ensures .1 .0)),
     )
 
 pub take-few-spec : {M : Type 1} → statement M

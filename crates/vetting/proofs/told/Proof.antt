@@ -1,8 +1,8 @@
--- `charter::told` meets its contract: the case says which numbers are answered.
+-- `vetting::told` meets its contract: the case says which numbers are answered.
 -- Assumes nothing.
 use borrow.Author.Needs.{needs}
-use Rattle.charter.proofs.told.Statement.{statement}
-use Rattle.charter.proofs.told.Tie as tie
+use Rattle.vetting.proofs.told.Statement.{statement}
+use Rattle.vetting.proofs.told.Tie as tie
 
 enum-told : tie.Need-enum-told
 enum-told c = search needs

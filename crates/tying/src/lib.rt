@@ -1,0 +1,68 @@
+// Numbers below 64 that are tied, each with a word of those tied before it: all that chains of ties put before it, in place.
+ghost use mathlib.Core.Path.{_≡_};
+ghost use mathlib.Core.Logic.{_↔_};
+ghost use Prim.Native.Nat.{ℕ, _≤_};
+ghost use lib.ListN.{length};
+ghost use Rattle.orders.specs.Orders.{Counted, Chain};
+ghost use Rattle.linking.specs.Linking.{Anyone, ClosesTo};
+ghost use Rattle.hanging.specs.Hanging.{hungIn, InWord, NoneHung};
+ghost use Rattle.tying.specs.Tying.{InPlace, Tied, Low, Among, Sorts, Gathered};
+use linking::Closed;
+
+// So many numbers a word has.
+const FEW: usize = 64;
+
+// Puts each number of a word in its own place.
+pub fn number_all(room: &mut [u8; 512])
+    requires { ⌜ length (now room) ≡ 512 ⌝ }
+    ensures { λ _. ⌜ (length (now (room .exit)) ≡ 512) × InPlace (now (room .exit)) ⌝ }
+{
+    let mut i = 0;
+    while i < FEW {
+        room[i] = i as u8;
+        i += 1;
+    }
+}
+
+// The word, and what is tied before those that are in it.
+fn gathered(word: u64, words: &[u64; 128]) -> u64
+    ensures { λ r. ⌜ Gathered word (now (words .entry)) r ⌝ }
+{
+    let mut all = word;
+    let mut rest = word;
+    while rest != 0 {
+        let x = bits::lowest(rest);
+        rest = bits::without_bit(rest, x);
+        all = bits::joined(all, words[x as usize]);
+    }
+    all
+}
+
+// Gathers for one number after another, in an order in which what is tied before another comes first.
+fn gather_all(total: usize, room: &[u8; 512], words: &mut [u64; 128])
+    requires { ⌜ (total ≤ 256) × (length (now room) ≡ 512) × (length (now words) ≡ 128) × Sorts (now room) total (now words) ⌝ }
+    ensures { λ _. ⌜ ((x y : ℕ) → Tied (now (words .exit)) x y ↔ Chain Anyone (Tied (now (words .entry))) x y) ⌝ }
+{
+    let mut k = 0;
+    while k < total {
+        let y = room[256 + k] as usize;
+        words[y] = gathered(words[y], words);
+        k += 1;
+    }
+}
+
+// Numbers that are tied, all of them members. The words behind theirs are used up.
+pub fn close(members: u64, total: usize, words: &mut [u64; 128]) -> Closed
+    requires { ⌜ (total ≤ 256) × (length (now words) ≡ 128) × Counted (InWord members) total × NoneHung (hungIn (now words))
+        × Among members (now words) × Low members ⌝ }
+    ensures { λ r. ⌜ ClosesTo (Tied (now (words .entry))) (Tied (now (words .exit))) r ⌝ }
+{
+    let mut room = [0u8; 512];
+    number_all(&mut room);
+    let taken = hanging::take(members, total, words, &mut room);
+    if taken < total {
+        return Closed::Circle;
+    }
+    gather_all(total, &room, words);
+    Closed::Chains
+}

@@ -1,0 +1,4 @@
+pub mod Pairing
+pub mod Vetting
+pub mod Planned
+pub mod Few

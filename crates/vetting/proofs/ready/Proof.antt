@@ -1,0 +1,62 @@
+-- `vetting::ready` meets its contract: a variable with no walk is refusal 10, else the actions are ordered.
+-- Assumes nothing.
+use mathlib.Core.Path.{refl, ap, _∙_}
+use Rattle.handing.specs.Answers.{notWalked}
+use Rattle.stages.proofs.Stages.{given-moves, given-starts, given-goals, given-traced, given-walking}
+use Rattle.charts.specs.Answers.{no-walk}
+use Rattle.vetting.proofs.Few.{given-rising}
+use borrow.Author.Needs.{needs}
+use Rattle.vetting.proofs.ready.Statement.{statement}
+use Rattle.vetting.proofs.ready.Tie as tie
+
+walk-all-requires : tie.Need-walk-all-requires
+walk-all-requires c κs =
+    let (t, x, known) = c .before .before .pre .3 in
+    let given = given-rising known in
+    (refl, (t, given-moves given, known .variables, given-starts given, given-goals given))
+
+enum-known-walked : tie.Need-enum-known-walked
+enum-known-walked c = search needs
+
+enum-told : tie.Need-enum-told
+enum-told c = search needs
+
+unwalked-requires : tie.Need-unwalked-requires
+unwalked-requires c κs = search needs
+
+returns : tie.Need-returns
+returns c t x known chart =
+    let e = c .before .enum-told .given .1 in
+    rw (c .unwalked .ensures ∙ ap notWalked e)
+    (no-walk (rw e at (given-traced (given-rising known) (c .before .before .before .walk-all .ensures .1 t))))
+
+order-words-requires : tie.Need-order-words-requires
+order-words-requires c κs =
+    let m = c .before .before .before in
+    let a = m .before .before in
+    let s = a .before .before .before in
+    let (t, x, known) = s .pre .3 in
+    let given = given-rising known in
+    let (rowed, (list, (members, counted))) = rw (m .walked .given .1) at (given-traced given (a .walk-all .ensures .1 t)) in
+    (s .pre .0, s .pre .1, s .pre .2, (t, s .args .n, given-walking given _ _ rowed list members counted))
+
+returns-2 : tie.Need-returns-2
+returns-2 c t x known =
+    let m = c .before .before .before .before in
+    let a = m .before .before in
+    let s = a .before .before .before in
+    let given = given-rising known in
+    let (rowed, (list, (members, counted))) = rw (m .walked .given .1) at (given-traced given (a .walk-all .ensures .1 t)) in
+    c .order-words .ensures t (s .args .n) (given-walking given _ _ rowed list members counted)
+
+pub ready-spec : {M : Type 1} → statement M
+ready-spec =
+    tie.close
+    (tie.spec
+    walk-all-requires
+    enum-known-walked
+    enum-told
+    unwalked-requires
+    returns
+    order-words-requires
+    returns-2)
