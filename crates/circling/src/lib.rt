@@ -90,11 +90,16 @@ fn lowest_before(
     lowest_setter(file, act, low, vars, setters, left)
 }
 
-// Puts an action on the path as its entry k, and goes to the one that must come first. `seen` has for each action 1 more
-// than its entry on the path, or 0.
+// An action, and its entry on the path.
+pub struct Spot {
+    action: usize,
+    entry: usize,
+}
+
+// Puts an action on the path, and goes to the one that must come first. `seen` has for each action 1 more than its entry on the
+// path, or 0.
 fn wait(
-    j: usize,
-    k: usize,
+    spot: Spot,
     file: &[u8],
     acts: &[[u8; 6]; 256],
     vars: &[[u8; 3]; 32],
@@ -106,39 +111,33 @@ fn wait(
 ) -> Circle
     requires { ⌜ (length (now seen) ≡ 256) × (length (now path) ≡ 256)
         × ((t : Study) × Stranded (now file) (startColumn (now vars)) (now setters) (now wanters) (now left) t × Rowed (now file) (now acts) t
-        × Pathed t (now seen) (now path) k × Stuck t j × (getD (now seen) j 0 ≡ 0) × Next t (now path) k j) ⌝ }
+        × Pathed t (now seen) (now path) (spot .entry) × Stuck t (spot .action) × (getD (now seen) (spot .action) 0 ≡ 0) × Next t (now path) (spot .entry) (spot .action)) ⌝ }
     ensures { λ r. ⌜ (length (now (seen .exit)) ≡ 256) × (length (now (path .exit)) ≡ 256) ⌝ }
     ensures { λ r. ⌜ ((t : Study)
         → Stranded (now (file .entry)) (startColumn (now (vars .entry))) (now (setters .entry)) (now (wanters .entry)) (now (left .entry)) t
         → Rowed (now (file .entry)) (now (acts .entry)) t
-        → Pathed t (now (seen .entry)) (now (path .entry)) k
-        → Stuck t j
-        → getD (now (seen .entry)) j 0 ≡ 0
-        → Next t (now (path .entry)) k j
-        → Closed t (now (path .entry)) (now (path .exit)) k r × (k < r .to) × (getD (now (path .exit)) k 0 ≡ j)) ⌝ }
+        → Pathed t (now (seen .entry)) (now (path .entry)) (spot .entry)
+        → Stuck t (spot .action)
+        → getD (now (seen .entry)) (spot .action) 0 ≡ 0
+        → Next t (now (path .entry)) (spot .entry) (spot .action)
+        → Closed t (now (path .entry)) (now (path .exit)) (spot .entry) r × (spot .entry < r .to) × (getD (now (path .exit)) (spot .entry) 0 ≡ spot .action)) ⌝ }
 {
+    let j = spot.action;
+    let k = spot.entry;
     path[k] = j as u8;
     seen[j] = (k + 1) as u16;
     let act = tables::action_at(acts, j);
     let i = lowest_before(file, act, vars, setters, wanters, left) as usize;
-    come_first(
-        i,
-        k + 1,
-        file,
-        acts,
-        vars,
-        setters,
-        wanters,
-        left,
-        seen,
-        path,
-    )
+    let first = Spot {
+        action: i,
+        entry: k + 1,
+    };
+    come_first(first, file, acts, vars, setters, wanters, left, seen, path)
 }
 
 // The action that must come before the last of the path: it is on the path, or goes on it.
 fn come_first(
-    i: usize,
-    k: usize,
+    spot: Spot,
     file: &[u8],
     acts: &[[u8; 6]; 256],
     vars: &[[u8; 3]; 32],
@@ -148,24 +147,25 @@ fn come_first(
     seen: &mut [u16; 256],
     path: &mut [u8; 256],
 ) -> Circle
-    requires { ⌜ (0 < k) × (length (now seen) ≡ 256) × (length (now path) ≡ 256)
+    requires { ⌜ (0 < spot .entry) × (length (now seen) ≡ 256) × (length (now path) ≡ 256)
         × ((t : Study) × Stranded (now file) (startColumn (now vars)) (now setters) (now wanters) (now left) t × Rowed (now file) (now acts) t
-        × Pathed t (now seen) (now path) k × Next t (now path) k i) ⌝ }
+        × Pathed t (now seen) (now path) (spot .entry) × Next t (now path) (spot .entry) (spot .action)) ⌝ }
     ensures { λ r. ⌜ (length (now (seen .exit)) ≡ 256) × (length (now (path .exit)) ≡ 256) ⌝ }
     ensures { λ r. ⌜ ((t : Study)
         → Stranded (now (file .entry)) (startColumn (now (vars .entry))) (now (setters .entry)) (now (wanters .entry)) (now (left .entry)) t
         → Rowed (now (file .entry)) (now (acts .entry)) t
-        → Pathed t (now (seen .entry)) (now (path .entry)) k
-        → Next t (now (path .entry)) k i
-        → Closed t (now (path .entry)) (now (path .exit)) k r) ⌝ }
+        → Pathed t (now (seen .entry)) (now (path .entry)) (spot .entry)
+        → Next t (now (path .entry)) (spot .entry) (spot .action)
+        → Closed t (now (path .entry)) (now (path .exit)) (spot .entry) r) ⌝ }
 {
+    let i = spot.action;
     if seen[i] != 0 {
         return Circle {
             from: (seen[i] - 1) as usize,
-            to: k,
+            to: spot.entry,
         };
     }
-    wait(i, k, file, acts, vars, setters, wanters, left, seen, path)
+    wait(spot, file, acts, vars, setters, wanters, left, seen, path)
 }
 
 pub fn ring(
@@ -189,9 +189,12 @@ pub fn ring(
     let mut seen = [0u16; 256];
     let mut path = [0u8; 256];
     let first = bits::least(left) as usize;
+    let spot = Spot {
+        action: first,
+        entry: 0,
+    };
     let c = wait(
-        first,
-        0,
+        spot,
         file,
         acts,
         vars,

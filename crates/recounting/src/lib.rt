@@ -47,7 +47,6 @@ fn print_steps(
     requires { ⌜ ((t : Study) × Ready (now file) (now plan) (now acts) (now vars) (now setters) (now wanters) (now places) t) ⌝ }
 {
     let mut out = [0u8; 8423];
-    let mut facts = [[0u8; 5]; 288];
     let n = telling::first(plan.len(), &mut out);
     io::write_all(STDOUT_FILENO, &out[..n]);
     let mut k = 0;
@@ -61,7 +60,6 @@ fn print_steps(
             setters,
             wanters,
             places,
-            &mut facts,
             &mut out,
         );
         io::write_all(STDOUT_FILENO, &out[..end]);
@@ -79,12 +77,11 @@ fn tell_step(
     setters: &[u8; 512],
     wanters: &[[u64; 4]; 512],
     places: &[u8; 256],
-    facts: &mut [[u8; 5]; 288],
     out: &mut [u8],
 ) -> usize
-    requires { ⌜ (k < length (now plan)) × (length (now facts) ≡ 288) × (length (now out) ≡ 8423)
+    requires { ⌜ (k < length (now plan)) × (length (now out) ≡ 8423)
         × ((t : Study) × Ready (now file) (now plan) (now acts) (now vars) (now setters) (now wanters) (now places) t) ⌝ }
-    ensures { λ r. ⌜ (r ≤ 8423) × (length (now (facts .exit)) ≡ 288) × (length (now (out .exit)) ≡ 8423) ⌝ }
+    ensures { λ r. ⌜ (r ≤ 8423) × (length (now (out .exit)) ≡ 8423) ⌝ }
     ensures { λ r. ⌜ ((t : Study)
         → Ready (now (file .entry)) (now (plan .entry)) (now (acts .entry)) (now (vars .entry)) (now (setters .entry)) (now (wanters .entry)) (now (places .entry)) t
         → take r (now (out .exit)) ≡ stepText t (now (plan .entry)) k (getD (now (plan .entry)) k 0)) ⌝ }
@@ -92,6 +89,7 @@ fn tell_step(
     let action = tables::wide(plan[k]);
     let act = tables::action_at(acts, action);
     let begin = telling::step(out, 0, k, action, act.var, act.pre, act.post);
-    let n = reasons::of_step(file, act, vars, setters, wanters, places, facts);
-    wording::lines(facts, n, out, begin)
+    let mut facts = [[0u8; 5]; 288];
+    let n = reasons::of_step(file, act, vars, setters, wanters, places, &mut facts);
+    wording::lines(&facts, n, out, begin)
 }

@@ -20,10 +20,10 @@ use Rattle.circling.proofs.+come_first+wait.{statement}
 use Rattle.circling.proofs.+come_first+wait.Tie.{close}
 
 abbrev μ-come-first : Measures 8 come-first-kinds.ps ℕ
-μ-come-first κs a = 2 * (256 - a .1 .0) + 1
+μ-come-first κs a = 2 * (256 - a .0 .entry) + 1
 
 abbrev μ-wait : Measures 8 wait-kinds.ps ℕ
-μ-wait κs a = 2 * (256 - a .1 .0)
+μ-wait κs a = 2 * (256 - a .0 .entry)
 
 abbrev come-first-at : ℕ → In 8 come-first-kinds.ps
 come-first-at t =
@@ -52,10 +52,10 @@ module _ (t : ℕ) where
   abbrev FirstEntry : Type 0
   FirstEntry = come-first-lts.Start (called-by-come-first t) (come-first-at t) come-first.Post
 
-  first-small : (s : FirstEntry) → s .args .i < 256
+  first-small : (s : FirstEntry) → s .args .spot .action < 256
   first-small s =
       let (some, wide, long, (study, stranded, rowed, pathed, next)) = s .pre .1 in
-      stuck-small (stranded .lawful) (next (s .args .k - 1) (omega arith) .stuck)
+      stuck-small (stranded .lawful) (next (s .args .spot .entry - 1) (omega arith) .stuck)
 
   come-first-mul-if1 : come-first-lts.Need-mul-if1 (called-by-come-first t) (come-first-at t) come-first.Post
   come-first-mul-if1 c = omega (arith, first-small (c .before))
@@ -90,7 +90,7 @@ module _ (t : ℕ) where
       let s = c .before .before .before .before .before in
       let (some, wide, long, (study, stranded, rowed, pathed, next)) = s .pre .1 in (
         omega (arith, s .pre .0),
-        (wide, long, (study, stranded, rowed, pathed, next (s .args .k - 1) (omega arith) .stuck, c .before .before .if1 .left, next)),
+        (wide, long, (study, stranded, rowed, pathed, next (s .args .spot .entry - 1) (omega arith) .stuck, c .before .before .if1 .left, next)),
       )
 
   come-first-returns-2 : come-first-lts.Need-returns-2 (called-by-come-first t) (come-first-at t) come-first.Post
@@ -99,7 +99,7 @@ module _ (t : ℕ) where
       let s = w .before .before .before in (
         c .wait .ensures .0,
         λ study stranded rowed pathed next.
-            c .wait .ensures .1 study stranded rowed pathed (next (s .args .k - 1) (omega (arith, s .pre .1 .0)) .stuck) (w .if1 .left) next .0,
+            c .wait .ensures .1 study stranded rowed pathed (next (s .args .spot .entry - 1) (omega (arith, s .pre .1 .0)) .stuck) (w .if1 .left) next .0,
       )
 
   -- ---- wait
@@ -107,7 +107,7 @@ module _ (t : ℕ) where
   abbrev WaitEntry : Type 0
   WaitEntry = wait-lts.Start (called-by-wait t) (wait-at t) wait.Post
 
-  wait-small : (s : WaitEntry) → (s .args .j < 256) × (s .args .k < 256)
+  wait-small : (s : WaitEntry) → (s .args .spot .action < 256) × (s .args .spot .entry < 256)
   wait-small s =
       let (wide, long, (study, stranded, rowed, pathed, stuck, new, next)) = s .pre .1 in
       (stuck-small (stranded .lawful) stuck, room-left pathed long (stranded .lawful) wide stuck new)
@@ -141,8 +141,8 @@ module _ (t : ℕ) where
   wait-cast-i : wait-lts.Need-cast-i (called-by-wait t) (wait-at t) wait.Post
   wait-cast-i c = omega (arith, c .lowest-before .ensures .0)
 
-  wait-add-come-first : wait-lts.Need-add-come-first (called-by-wait t) (wait-at t) wait.Post
-  wait-add-come-first c = omega (arith, wait-small (c .before .before .before))
+  wait-add-t18 : wait-lts.Need-add-t18 (called-by-wait t) (wait-at t) wait.Post
+  wait-add-t18 c = omega (arith, wait-small (c .before .before .before))
 
   wait-come-first-requires : wait-lts.Need-come-first-requires (called-by-wait t) (wait-at t) wait.Post
   wait-come-first-requires c κs =
@@ -201,6 +201,6 @@ pub +come-first+wait-spec : {M : Type 1} → statement M
     (wait-action-at-requires t)
     (wait-lowest-before-requires t)
     (wait-cast-i t)
-    (wait-add-come-first t)
+    (wait-add-t18 t)
     (wait-come-first-requires t)
     (wait-returns t)

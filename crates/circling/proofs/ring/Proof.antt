@@ -29,7 +29,7 @@ abbrev least-of : tie.After-wait → ℕ
 least-of w = w .before .before .before .least .result
 
 abbrev path-of : tie.After-wait → List ℕ
-path-of w = w .wait .last .1 .1 .1 .1 .1 .1 .1 .1 .1 .0
+path-of w = w .wait .last .1 .1 .1 .1 .1 .1 .1 .1 .0
 
 least-requires : tie.Need-least-requires
 least-requires c κs = search needs

@@ -1,5 +1,6 @@
 -- `recounting::tell_step` meets its contract: the step's line, and the lines of its reasons behind it.
 -- Assumes nothing.
+use mathlib.Core.Path.{refl}
 use native.Mathlib.Omega.{arith}
 use lib.ListN.{getD}
 use denote.Ref.{now}
@@ -26,8 +27,8 @@ of-step-requires c κs =
     let a = c .before .before .before .before .before in
     let w = a .before in
     let s = w .before .before .before .before .before in
-    let (t, ready) = s .pre .3 in
-    (s .pre .1, (t, _, _, ready .reasonable, ready .step (s .args .k) (s .pre .0) (rw (w .wide .ensures .0) at (a .action-at .ensures))))
+    let (t, ready) = s .pre .2 in
+    (refl, (t, _, _, ready .reasonable, ready .step (s .args .k) (s .pre .0) (rw (w .wide .ensures .0) at (a .action-at .ensures))))
 
 lines-requires : tie.Need-lines-requires
 lines-requires c κs = search needs
@@ -43,7 +44,7 @@ returns c =
     let a = p .before .before in
     let w = a .before in
     let s = w .before .before .before .before .before in (
-      (omega (arith, l .lines .ensures .0 .0, o .of-step .ensures .0 .0, p .step .ensures .0), o .of-step .ensures .0 .1, omega (arith, l .lines .ensures .0 .1, p .step .kept .0, s .pre .2)),
+      (omega (arith, l .lines .ensures .0 .0, o .of-step .ensures .0 .0, p .step .ensures .0), omega (arith, l .lines .ensures .0 .1, p .step .kept .0, s .pre .1)),
       λ t ready.
           let opened = rw (w .wide .ensures .0) at (a .action-at .ensures) in
           let step = ready .step (s .args .k) (s .pre .0) opened in
