@@ -9,7 +9,7 @@ use lib.Seq.{drop-drop}
 use Rattle.answer.specs.declared.Answer.{Answer}
 use Rattle.journeys.specs.Allowed.{JourneysAllows}
 use Rattle.dispatch.specs.Input.{numberAt, behindHead, crewIn, startIn, ranksIn, ridesIn, fileIn}
-use Rattle.dispatch.proofs.Parts.{least, take-same, drop-same, part, rest}
+use Rattle.parts.proofs.Parts.{least, take-same, drop-same, part, rest}
 
 -- the bytes from a place up to another
 abbrev between : ℕ → ℕ → List ℕ → List ℕ
