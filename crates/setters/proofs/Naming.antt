@@ -1,28 +1,27 @@
 -- Naming one action more in the table of setters: it is named at a place of its own, unless it repeats an earlier one.
 -- Assumes nothing.
-use mathlib.Core.Path.{_≡_, sym, _∙_, subst}
-use mathlib.Core.Logic.{_⊎_, ⊎-elim}
-use mathlib.Core.Bool.{Bool, true, false, _&&_, and-eq-true-iff, false≢true}
+use mathlib.Core.Path.{_≡_, sym, ap, _∙_, subst}
+use mathlib.Core.Logic.{_≢_, ⊎-elim}
+use mathlib.Core.Bool.{true, false, _||_, false≢true}
 use mathlib.Core.List.{List}
 use Prim.Native.Nat.{ℕ, _+_, _*_, _≤_, _<_}
 use native.Mathlib.Omega.{arith}
 use native.Mathlib.Decide.{ℕ-discrete}
 use lib.Dec.{eqb}
-use lib.ListN.{length, getD, set, length-set}
+use lib.ListN.{length, getD, set, replicate, length-set}
 use lib.Seq.{getD-set-same, getD-set-other}
-use borrow.Author.Tests.{eqb-true, eq-eqb}
+use Rattle.bits.specs.Bits.{bit}
+use Rattle.bits.proofs.Words.{bit-zero}
+use Rattle.bits.proofs.Changed.{put-here, put-stays, put-only}
+use Rattle.bits.proofs.Members.{zero-words}
 use Rattle.study.specs.Study.{Action, inForce, actionAt}
 use Rattle.study.proofs.Repeats.{RepeatsAt, first-that-repeats, nobody-repeats}
 use Rattle.tables.specs.Tables.{ActionTables, actionTables, HoldsAction, HoldsActions, NamesSetters}
-use Rattle.setters.specs.Filling.{Filled}
+use Rattle.setters.specs.Filling.{SetsBefore, Marks, Kept, Filled}
 
 -- where the table names an action
 abbrev pub placeOf : Action → ℕ
 placeOf a = 16 * a .var + a .post
-
--- an action of the tables is in force and sets the variable to the value
-abbrev pub setsIn : ActionTables → ℕ → ℕ → ℕ → Bool
-setsIn t i v q = eqb (getD (t .vars) i 0) v && (eqb (getD (t .posts) i 0) q && eqb (getD (t .outs) i 0) 0)
 
 -- where each action in force is named, none repeats an earlier one: one place names one action
 pub named-once :
@@ -48,6 +47,22 @@ one-more situation {i} setters actions before here k h = go k h (ℕ-discrete k 
     go k h (yes e) = subst (λ (k : ℕ). inForce situation (actionAt actions k) ≡ true → getD setters (placeOf (actionAt actions k)) 0 ≡ k) (sym e) here
     go k h (no o) = before k (omega (arith, o))
 
+-- what is set among the first n is set among one more
+more : (situation : ℕ) (actions : List Action) {n v q k : ℕ} → SetsBefore situation actions n v q k → SetsBefore situation actions (n + 1) v q k
+more situation actions s = record { before = omega (arith, s .before); in-force = s .in-force; var = s .var; post = s .post }
+
+-- .. and so back, where it is not the last that sets it
+earlier :
+    (situation : ℕ) (actions : List Action) {n v q k : ℕ} → SetsBefore situation actions (n + 1) v q k → k ≢ n → SetsBefore situation actions n v q k
+earlier situation actions s other = record { before = omega (arith, s .before, other); in-force = s .in-force; var = s .var; post = s .post }
+
+-- .. and nothing is set among none
+pub none-marked : (situation : ℕ) (actions : List Action) → Marks situation 0 (replicate 32 0) actions
+none-marked situation actions = record {
+  sets = λ v q e. absurd (false≢true (sym (rw (zero-words 32 v) (bit-zero q)) ∙ e));
+  marked = λ v q k s. absurd (omega (arith, s .before));
+}
+
 module _ {file : List ℕ} {situation n : ℕ} {t : ActionTables} {actions : List Action} (holds : HoldsActions file situation n t actions) where
   -- the rows hold the actions beside any table of setters
   pub beside : (other : List ℕ) → HoldsActions file situation n (actionTables other (t .vars) (t .pres) (t .posts) (t .places) (t .manys) (t .outs)) actions
@@ -59,69 +74,99 @@ module _ {file : List ℕ} {situation n : ℕ} {t : ActionTables} {actions : Lis
         record { var = a .var; pre = a .pre; post = a .post; low = a .low; narrow = a .narrow; force = a .force; conditions = a .conditions };
   }
 
-  module _ {i : ℕ} (h : i < n) where
-    -- an action out of force is not named
-    pub not-named : eqb (getD (t .outs) i 0) 0 ≡ false → NamesSetters situation i (t .setters) actions → NamesSetters situation (i + 1) (t .setters) actions
-    not-named out names = one-more situation (t .setters) actions names (λ e. absurd (false≢true (sym out ∙ (holds .action i h .force ∙ e))))
+  module _ {i : ℕ} (h : i < n) {marks : List ℕ} (kept : Kept situation i (t .setters) marks actions) where
+    abbrev this : Action
+    this = actionAt actions i
 
-    -- an earlier action in force sets what this one sets
-    pub repeats :
-        eqb (getD (t .outs) i 0) 0 ≡ true → {j v q : ℕ} → j < i → setsIn t j v q ≡ true
-        → v ≡ getD (t .vars) i 0 → q ≡ getD (t .posts) i 0 → RepeatsAt situation actions i
-    repeats in-force {j} {v} {q} before sets same-v same-q =
-        let this = holds .action i h in
-        let other = holds .action j (omega arith) in
-        let tests = and-eq-true-iff _ _ .0 sets in
-        let last = and-eq-true-iff _ _ .0 (tests .1) in
-        record {
-          there = rw (← holds .count) h;
-          in-force = sym (this .force) ∙ in-force;
-          earlier = j;
-          before = before;
-          earlier-in-force = sym (other .force) ∙ last .1;
-          same-var = sym (other .var) ∙ (eqb-true _ v (tests .0) ∙ (same-v ∙ this .var));
-          same-post = sym (other .post) ∙ (eqb-true _ q (last .0) ∙ (same-q ∙ this .post));
-        }
-
-    -- .. and where none does, its place is free for it
-    pub named :
-        {v q : ℕ} → v ≡ getD (t .vars) i 0 → q ≡ getD (t .posts) i 0 → {at : ℕ} → at ≡ placeOf (actionAt actions i) → length (t .setters) ≡ 512
-        → {j : ℕ} → j ≡ getD (t .setters) at 0 → (setsIn t j v q ≡ false) ⊎ (i ≤ j)
-        → NamesSetters situation i (t .setters) actions
-        → (length (set (t .setters) at i) ≡ 512) × NamesSetters situation (i + 1) (set (t .setters) at i) actions
-    named {v} {q} same-v same-q {at} is-at long {j} is-j free names =
-        (length-set (t .setters) at i ∙ long, one-more situation (set (t .setters) at i) actions before (λ _. rw (← is-at) (getD-set-same (t .setters) at i 0 room)))
+    -- an action out of force is neither named nor marked
+    pub not-named : eqb (getD (t .outs) i 0) 0 ≡ false → Kept situation (i + 1) (t .setters) marks actions
+    not-named out = record {
+      named = one-more situation (t .setters) actions (kept .named) (λ e. absurd (not-in e));
+      noted =
+          record {
+            sets = λ v q e. let (k, s) = kept .noted .sets v q e in (k, more situation actions s);
+            marked = λ v q k s. kept .noted .marked v q k (earlier situation actions s (not-this s));
+          };
+    }
       where
-        this : HoldsAction file situation t i (actionAt actions i)
-        this = holds .action i h
+        not-in : inForce situation this ≡ true → ⊥
+        not-in e = false≢true (sym out ∙ (holds .action i h .force ∙ e))
 
-        room : at < length (t .setters)
-        room = omega (arith, this .low, this .narrow)
+        not-this : {v q k : ℕ} → SetsBefore situation actions (i + 1) v q k → k ≢ i
+        not-this s e = not-in (rw e at (s .in-force))
 
-        before : (k : ℕ) → k < i → inForce situation (actionAt actions k) ≡ true → getD (set (t .setters) at i) (placeOf (actionAt actions k)) 0 ≡ k
-        before k less in-force = go (ℕ-discrete (placeOf (actionAt actions k)) at)
+    module _ (in-force : eqb (getD (t .outs) i 0) 0 ≡ true) where
+      its-force : inForce situation this ≡ true
+      its-force = sym (holds .action i h .force) ∙ in-force
+
+      -- an earlier action in force sets what this one sets
+      pub repeats : bit (getD marks (this .var) 0) (this .post) ≡ true → RepeatsAt situation actions i
+      repeats e =
+          let (j, s) = kept .noted .sets (this .var) (this .post) e in
+          record {
+            there = rw (← holds .count) h;
+            in-force = its-force;
+            earlier = j;
+            before = s .before;
+            earlier-in-force = s .in-force;
+            same-var = s .var;
+            same-post = s .post;
+          }
+
+      -- .. and where none does, its place is free for it, and what it sets is marked besides
+      module _ (long : length (t .setters) ≡ 512) (wide : length marks ≡ 32) (new : bit (getD marks (this .var) 0) (this .post) ≡ false) where
+        it : HoldsAction file situation t i this
+        it = holds .action i h
+
+        free : (k : ℕ) → k < i → inForce situation (actionAt actions k) ≡ true → placeOf (actionAt actions k) ≢ placeOf this
+        free k less force e =
+            false≢true
+            (sym new
+            ∙ kept .noted .marked (this .var) (this .post) k
+            (record {
+              before = less;
+              in-force = force;
+              var = omega (arith, e, other .narrow, it .narrow);
+              post = omega (arith, e, other .narrow, it .narrow);
+            }))
           where
             other : HoldsAction file situation t k (actionAt actions k)
             other = holds .action k (omega arith)
 
-            found : getD (t .setters) (placeOf (actionAt actions k)) 0 ≡ k
-            found = names k less in-force
+        pub named : {at : ℕ} → at ≡ placeOf this → (length (set (t .setters) at i) ≡ 512) × NamesSetters situation (i + 1) (set (t .setters) at i) actions
+        named {at} is-at =
+            (length-set (t .setters) at i ∙ long, one-more situation (set (t .setters) at i) actions before (λ _. rw (← is-at) (getD-set-same (t .setters) at i 0 (omega (arith, it .low, it .narrow, long)))))
+          where
+            before : (k : ℕ) → k < i → inForce situation (actionAt actions k) ≡ true → getD (set (t .setters) at i) (placeOf (actionAt actions k)) 0 ≡ k
+            before k less force = getD-set-other (t .setters) at _ i 0 (λ e. free k less force (e ∙ is-at)) ∙ kept .named k less force
 
-            it-sets : (placeOf (actionAt actions k) ≡ at) → setsIn t k v q ≡ true
-            it-sets e =
-                and-eq-true-iff _ _ .1 (
-                  eq-eqb _ v (omega (arith, other .var, this .var, other .narrow, this .narrow)),
-                  and-eq-true-iff _ _ .1 (
-                    eq-eqb _ q (omega (arith, other .post, this .post, other .narrow, this .narrow)),
-                    other .force ∙ in-force,
-                  ),
-                )
+        module _ (v word : ℕ) (is-v : v ≡ this .var) (put : (j : ℕ) → bit word j ≡ (eqb (this .post) j || bit (getD marks v 0) j)) where
+          here : getD (set marks v word) v 0 ≡ word
+          here = getD-set-same marks v word 0 (omega (arith, it .low, wide))
 
-            go : Dec (placeOf (actionAt actions k) ≡ at) → getD (set (t .setters) at i) (placeOf (actionAt actions k)) 0 ≡ k
-            go (yes e) =
-                let here : j ≡ k = is-j ∙ (rw e at found) in
-                absurd (⊎-elim (λ f. false≢true (sym f ∙ (rw here (it-sets e)))) (λ f. omega arith) free)
-            go (no o) = getD-set-other (t .setters) at _ i 0 o ∙ found
+          pub one-marked : Marks situation (i + 1) (set marks v word) actions
+          one-marked = record { sets = λ w q. sets-too w q (ℕ-discrete v w); marked = λ w q k s. marked-too w q k s (ℕ-discrete v w) (ℕ-discrete k i) }
+            where
+              sets-too : (w q : ℕ) → Dec (v ≡ w) → bit (getD (set marks v word) w 0) q ≡ true → (k : ℕ) × SetsBefore situation actions (i + 1) w q k
+              sets-too w q (yes e) b =
+                  ⊎-elim
+                  (λ f. (i, record { before = omega arith; in-force = its-force; var = sym is-v ∙ e; post = sym f }))
+                  (λ f. let (k, s) = kept .noted .sets w q (rw e at f) in (k, more situation actions s))
+                  (put-only (this .post) (getD marks v 0) word put q (sym (ap (λ (x : ℕ). bit x q) here) ∙ (rw (← e) at b)))
+              sets-too w q (no o) b =
+                  let (k, s) = kept .noted .sets w q (sym (ap (λ (x : ℕ). bit x q) (getD-set-other marks v w word 0 (λ e. o (sym e)))) ∙ b) in (k, more situation actions s)
+
+              marked-too :
+                  (w q k : ℕ) → SetsBefore situation actions (i + 1) w q k → Dec (v ≡ w) → Dec (k ≡ i)
+                  → bit (getD (set marks v word) w 0) q ≡ true
+              marked-too w q k s (yes e) (yes f) =
+                  let same : q ≡ this .post = sym (s .post) ∙ ap (λ (k : ℕ). actionAt actions k .post) f in
+                  rw (← e, here, same) (put-here (this .post) (getD marks v 0) word put)
+              marked-too w q k s (yes e) (no g) =
+                  rw (← e, here) (put-stays (this .post) (getD marks v 0) word put q (rw (← e) at (kept .noted .marked w q k (earlier situation actions s g))))
+              marked-too w q k s (no o) (yes f) = absurd (o (is-v ∙ (sym (ap (λ (k : ℕ). actionAt actions k .var) f) ∙ s .var)))
+              marked-too w q k s (no o) (no g) =
+                  ap (λ (x : ℕ). bit x q) (getD-set-other marks v w word 0 (λ e. o (sym e))) ∙ kept .noted .marked w q k (earlier situation actions s g)
 
 -- the first that repeats, where those before it are named
 pub one-repeats :

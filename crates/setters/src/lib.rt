@@ -1,35 +1,54 @@
 // The table of setters, filled from the rows of the actions once all are read.
 ghost use mathlib.Core.Path.{_≡_};
+ghost use mathlib.Core.Bool.{_||_};
 ghost use mathlib.Core.List.{List};
 ghost use Prim.Native.Nat.{ℕ, _≤_, _<_};
+ghost use lib.Dec.{eqb};
 ghost use lib.ListN.{length};
+ghost use Rattle.bits.specs.Bits.{bit};
 ghost use Rattle.study.specs.Study.{Action};
 ghost use Rattle.tables.specs.Tables.{HoldsActions};
 ghost use Rattle.tables.specs.Rows.{seen};
 ghost use Rattle.setters.specs.Filling.{Named, Filled};
 
-// Names action i for the value that it sets, unless it is out of force. Says no, and names nothing, where an earlier action
-// in force sets that value too. An entry of the table is believed only if the action that it names does set the value.
-fn name(i: usize, acts: &[[u8; 6]; 256], setters: &mut [u8; 512]) -> bool
-    requires { ⌜ i < 256 ⌝ }
+// Whether a value is among the marked ones of a variable, a bit for each.
+fn has_mark(word: u16, q: u8) -> bool
+    requires { ⌜ q < 16 ⌝ }
+    ensures { λ r. ⌜ r ≡ bit word q ⌝ }
+{
+    bits::holds(word as u64, q)
+}
+
+fn with_mark(word: u16, q: u8) -> u16
+    requires { ⌜ q < 16 ⌝ }
+    ensures { λ r. ⌜ ((j : ℕ) → bit r j ≡ (eqb q j || bit word j)) ⌝ }
+{
+    bits::mark(word as u64, q) as u16
+}
+
+// Names action i for the value that it sets, and marks the value, unless the action is out of force. Says no, and names
+// nothing, where the value is marked: an earlier action in force sets it too.
+fn name(i: usize, acts: &[[u8; 6]; 256], setters: &mut [u8; 512], marks: &mut [u16; 32]) -> bool
+    requires { ⌜ (i < 256) × (length (now marks) ≡ 32) ⌝ }
+    ensures { λ r. ⌜ length (now (marks .exit)) ≡ 32 ⌝ }
     ensures { λ r. ⌜ ((file : List ℕ) (situation n : ℕ) (actions : List Action)
         → HoldsActions file situation n (seen (now (setters .entry)) (now (acts .entry))) actions
         → i < n
         → length (now (setters .entry)) ≡ 512
-        → Named situation actions i (now (setters .entry)) (now (setters .exit)) r) ⌝ }
+        → Named situation actions i (now (setters .entry)) (now (marks .entry)) (now (setters .exit)) (now (marks .exit)) r) ⌝ }
 {
     if !tables::in_force(acts, i) {
         return true;
     }
     let act = tables::action_at(acts, i);
-    let at = 16 * (tables::wide(act.var) % 32) + tables::wide(act.post) % 16;
-    let j = tables::wide(setters[at]);
-    if j < i {
-        if tables::sets_to(acts, j, act.var, act.post) {
-            return false;
-        }
+    let v = tables::wide(act.var) % 32;
+    let q = act.post % 16;
+    let word = marks[v];
+    if has_mark(word, q) {
+        return false;
     }
-    setters[at] = i as u8;
+    marks[v] = with_mark(word, q);
+    setters[16 * v + tables::wide(q)] = i as u8;
     true
 }
 
@@ -42,9 +61,10 @@ pub fn fill(n: usize, acts: &[[u8; 6]; 256], setters: &mut [u8; 512]) -> usize
         → length (now (setters .entry)) ≡ 512
         → Filled situation n actions (now (setters .exit)) r) ⌝ }
 {
+    let mut marks = [0u16; 32];
     let mut i = 0;
     while i < n {
-        if !name(i, acts, setters) {
+        if !name(i, acts, setters, &mut marks) {
             return i;
         }
         i += 1;

@@ -1,12 +1,14 @@
 -- `setters::name` meets its contract: what the rows hold is what the actions are.
 -- Assumes nothing.
-use mathlib.Core.Path.{sym, _∙_}
+use mathlib.Core.Path.{_≡_, sym, ap, _∙_}
+use mathlib.Core.Bool.{false≢true}
+use Prim.Native.Nat.{ℕ, _+_, _*_, _%_}
+use native.Mathlib.Omega.{arith}
+use lib.ListN.{length-set}
 use borrow.Author.Needs.{needs}
 use borrow.Author.Tests.{not-true, not-false}
-use mathlib.Core.Bool.{false≢true}
-use mathlib.Core.Logic.{inl, inr, ⊎-elim}
-use native.Mathlib.Omega.{arith}
-use Rattle.setters.proofs.Naming.{not-named, repeats, named}
+use Rattle.study.specs.Study.{actionAt}
+use Rattle.setters.proofs.Naming.{not-named, repeats, named, one-marked}
 use Rattle.setters.proofs.name.Statement.{statement}
 use Rattle.setters.proofs.name.Tie as tie
 
@@ -14,10 +16,13 @@ in-force-requires : tie.Need-in-force-requires
 in-force-requires c κs = search needs
 
 returns : tie.Need-returns
-returns c file situation n actions holds h long = record {
-  names = λ _ names. (long, not-named holds h (sym (c .before .in-force .ensures) ∙ not-true _ (c .if1 .taken)) names);
-  repeats = λ e. absurd (false≢true (sym e));
-}
+returns c = (
+  c .before .before .pre .1,
+  λ file situation n actions holds h long. record {
+    names = λ _ kept. (long, not-named holds h kept (sym (c .before .in-force .ensures) ∙ not-true _ (c .if1 .taken)));
+    repeats = λ e. absurd (false≢true (sym e));
+  },
+)
 
 action-at-requires : tie.Need-action-at-requires
 action-at-requires c κs = search needs
@@ -25,63 +30,89 @@ action-at-requires c κs = search needs
 wide-requires : tie.Need-wide-requires
 wide-requires c κs = search needs
 
-mul-at : tie.Need-mul-at
-mul-at c = search needs
+mul-word : tie.Need-mul-word
+mul-word c = search needs
+
+element-copy-out-word : tie.Need-element-copy-out-word
+element-copy-out-word c = search needs
+
+has-mark-requires : tie.Need-has-mark-requires
+has-mark-requires c κs = search needs
+
+returns-2 : tie.Need-returns-2
+returns-2 c =
+    let s = c .before in
+    let w = s .before .before .before in
+    let a = w .before in (
+      a .before .before .before .pre .1,
+      λ file situation n actions holds h long.
+          let act = a .action-at .ensures in
+          let this = holds .action _ h in
+          let same-var : w .wide .result % 32 ≡ actionAt actions (a .before .before .before .args .i) .var =
+          omega (arith, act .var, this .var, this .low, w .wide .ensures .0) in
+          let same-post : a .action-at .result .post % 16 ≡ actionAt actions (a .before .before .before .args .i) .post =
+          omega (arith, act .post, this .post, this .narrow) in
+          record {
+            names = λ e. absurd (false≢true e);
+            repeats = λ _ kept.
+                repeats holds h kept (sym (a .before .before .in-force .ensures) ∙ not-false _ (a .before .if1 .left))
+                (rw (same-var, same-post) at (sym (s .has-mark .ensures) ∙ c .if2 .taken));
+          },
+    )
+
+with-mark-requires : tie.Need-with-mark-requires
+with-mark-requires c κs = search needs
+
+mul-marks : tie.Need-mul-marks
+mul-marks c = search needs
+
+element-write-marks : tie.Need-element-write-marks
+element-write-marks c = search needs
+
+cast-setters : tie.Need-cast-setters
+cast-setters c = search needs
+
+mul-setters : tie.Need-mul-setters
+mul-setters c = search needs
 
 wide-requires-2 : tie.Need-wide-requires-2
 wide-requires-2 c κs = search needs
 
-add-at : tie.Need-add-at
-add-at c = search needs
-
-element-copy-out-wide : tie.Need-element-copy-out-wide
-element-copy-out-wide c = search needs
-
-wide-requires-3 : tie.Need-wide-requires-3
-wide-requires-3 c κs = search needs
-
-sets-to-requires : tie.Need-sets-to-requires
-sets-to-requires c κs = search needs
-
-returns-2 : tie.Need-returns-2
-returns-2 c file situation n actions holds h long =
-    let s = c .before in
-    let w = s .before .before in
-    let a = w .before .before .before .before in
-    let act = a .action-at .ensures in
-    record {
-      names = λ e. absurd (false≢true e);
-      repeats = λ _ _.
-          repeats holds h (sym (a .before .before .in-force .ensures) ∙ not-false _ (a .before .if1 .left)) (s .before .if2 .taken) (sym (s .sets-to .ensures) ∙ c .if3 .taken) (act .var) (act .post);
-    }
-
-cast-setters : tie.Need-cast-setters
-cast-setters c = search needs
+add-setters : tie.Need-add-setters
+add-setters c = search needs
 
 element-write-setters : tie.Need-element-write-setters
 element-write-setters c = search needs
 
 returns-3 : tie.Need-returns-3
-returns-3 c file situation n actions holds h long =
-    let w = c .before in
-    let at = w .before .before in
-    let a = at .before .before in
-    let act = a .action-at .ensures in
-    let this = holds .action _ h in
-    record {
-      names = λ _ names.
-          named
-          holds
-          h
-          (act .var)
-          (act .post)
-          (omega (arith, act .var, act .post, this .var, this .post, this .low, this .narrow, at .before .wide .ensures .0, at .wide2 .ensures .0))
-          long
-          (w .wide3 .ensures .0)
-          (⊎-elim (λ t. inl (sym (t .1 .ensures) ∙ t .2 .left)) (λ f. inr (f .left)) (c .if2 .came))
-          names;
-      repeats = λ e. absurd (false≢true (sym e));
-    }
+returns-3 c =
+    let p = c .before in
+    let s = p .before .before in
+    let w = s .before .before .before in
+    let a = w .before in (
+      length-set {A = ℕ} (a .before .before .before .args .marks .now) (w .wide .result % 32) (p .with-mark .result) ∙ a .before .before .before .pre .1,
+      λ file situation n actions holds h long.
+          let act = a .action-at .ensures in
+          let this = holds .action _ h in
+          let same-var : w .wide .result % 32 ≡ actionAt actions (a .before .before .before .args .i) .var =
+          omega (arith, act .var, this .var, this .low, w .wide .ensures .0) in
+          let same-post : a .action-at .result .post % 16 ≡ actionAt actions (a .before .before .before .args .i) .post =
+          omega (arith, act .post, this .post, this .narrow) in
+          record {
+            names = λ _ kept.
+                let force = sym (a .before .before .in-force .ensures) ∙ not-false _ (a .before .if1 .left) in
+                let new = rw (same-var, same-post) at (sym (s .has-mark .ensures) ∙ p .before .if2 .left) in
+                let wide = a .before .before .before .pre .1 in
+                let at = named holds h kept force long wide new {at = 16 * (w .wide .result % 32) + c .wide2 .result} (omega (arith, same-var, same-post, c .wide2 .ensures .0)) in (
+                  at .0,
+                  record {
+                    named = at .1;
+                    noted = one-marked holds h kept force long wide new _ _ same-var (λ j. rw same-post at (p .with-mark .ensures j));
+                  },
+                );
+            repeats = λ e. absurd (false≢true (sym e));
+          },
+    )
 
 pub name-spec : {M : Type 1} → statement M
 name-spec =
@@ -91,13 +122,16 @@ name-spec =
     returns
     action-at-requires
     wide-requires
-    mul-at
-    wide-requires-2
-    add-at
-    element-copy-out-wide
-    wide-requires-3
-    sets-to-requires
+    mul-word
+    element-copy-out-word
+    has-mark-requires
     returns-2
+    with-mark-requires
+    mul-marks
+    element-write-marks
     cast-setters
+    mul-setters
+    wide-requires-2
+    add-setters
     element-write-setters
     returns-3)
