@@ -32,7 +32,7 @@ fn print(input: &[u8])
     let mut file = [0u8; ROOM];
     let answer = compose(input, &mut file);
     if answer.number != 0 {
-        print_refusal(answer);
+        telling::print_refusal(answer);
         return;
     }
     let n = answer.first as usize;
@@ -40,12 +40,6 @@ fn print(input: &[u8])
     io::print_decimal(STDOUT_FILENO, answer.first);
     io::write_all(STDOUT_FILENO, b"\n");
     io::write_all(STDOUT_FILENO, &file[..n]);
-}
-
-fn print_refusal(answer: Answer) {
-    let mut line = [0u8; 71];
-    let n = telling::refused(answer, &mut line);
-    io::write_all(STDOUT_FILENO, &line[..n]);
 }
 
 // Writes into room for the longest file, so that 13 is never answered.

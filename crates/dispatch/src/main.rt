@@ -32,7 +32,7 @@ fn print(input: &[u8], n: usize)
     let mut journeys = [0u8; ROOM];
     let answer = dispatch(input, n, &mut journeys);
     if answer.number != 0 {
-        print_refusal(answer);
+        telling::print_refusal(answer);
         return;
     }
     let len = 3 * answer.first as usize;
@@ -40,12 +40,6 @@ fn print(input: &[u8], n: usize)
     io::print_decimal(STDOUT_FILENO, answer.first);
     io::write_all(STDOUT_FILENO, b"\n");
     io::write_all(STDOUT_FILENO, &journeys[..len]);
-}
-
-fn print_refusal(answer: Answer) {
-    let mut line = [0u8; 71];
-    let n = telling::refused(answer, &mut line);
-    io::write_all(STDOUT_FILENO, &line[..n]);
 }
 
 // Into room for the journeys of any plan, so that 13 is never answered.

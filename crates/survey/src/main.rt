@@ -31,7 +31,7 @@ fn print(input: &[u8], n: usize)
     let mut report = [0u8; ROOM];
     let answer = survey(input, n, &mut report);
     if answer.number != 0 {
-        print_refusal(answer);
+        telling::print_refusal(answer);
         return;
     }
     let len = answer.first as usize;
@@ -39,12 +39,6 @@ fn print(input: &[u8], n: usize)
     io::print_decimal(STDOUT_FILENO, answer.first);
     io::write_all(STDOUT_FILENO, b"\n");
     io::write_all(STDOUT_FILENO, &report[..len]);
-}
-
-fn print_refusal(answer: Answer) {
-    let mut line = [0u8; 71];
-    let n = telling::refused(answer, &mut line);
-    io::write_all(STDOUT_FILENO, &line[..n]);
 }
 
 // Reports into room for the longest report, so that 13 is never answered.

@@ -7,6 +7,13 @@ ghost use lib.ListN.{length, take};
 ghost use Rattle.tables.specs.Rows.{varColumn, preColumn, postColumn};
 ghost use Rattle.telling.specs.Text.{Appends, decimal, spaced, firstLine, crewLine, stepLine, shownIn, planText, refusedLine};
 use answer::Answer;
+use libc::STDOUT_FILENO;
+
+pub fn print_refusal(answer: Answer) {
+    let mut line = [0u8; 71];
+    let n = refused(answer, &mut line);
+    io::write_all(STDOUT_FILENO, &line[..n]);
+}
 
 // The one line of a refusal: 71 bytes at most.
 pub fn refused(answer: Answer, out: &mut [u8]) -> usize

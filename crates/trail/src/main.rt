@@ -34,7 +34,7 @@ fn print(input: &[u8], n: usize)
 
 fn print_answer(answer: Answer) {
     if answer.number != 0 {
-        print_refusal(answer);
+        telling::print_refusal(answer);
         return;
     }
     io::write_all(STDOUT_FILENO, b"replayed ");
@@ -42,12 +42,6 @@ fn print_answer(answer: Answer) {
     io::write_all(STDOUT_FILENO, b" ");
     io::print_decimal(STDOUT_FILENO, answer.second);
     io::write_all(STDOUT_FILENO, b"\n");
-}
-
-fn print_refusal(answer: Answer) {
-    let mut line = [0u8; 71];
-    let n = telling::refused(answer, &mut line);
-    io::write_all(STDOUT_FILENO, &line[..n]);
 }
 
 // The records at the start and after each whole event, as long as the log up to there is not refused.

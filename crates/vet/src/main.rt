@@ -24,7 +24,7 @@ fn main() {
 
 fn print(answer: Answer) {
     if answer.number != 0 {
-        print_refusal(answer);
+        telling::print_refusal(answer);
         return;
     }
     io::write_all(STDOUT_FILENO, b"chart ");
@@ -32,12 +32,6 @@ fn print(answer: Answer) {
     io::write_all(STDOUT_FILENO, b" ");
     io::print_decimal(STDOUT_FILENO, answer.second);
     io::write_all(STDOUT_FILENO, b"\n");
-}
-
-fn print_refusal(answer: Answer) {
-    let mut line = [0u8; 71];
-    let n = telling::refused(answer, &mut line);
-    io::write_all(STDOUT_FILENO, &line[..n]);
 }
 
 // Of the input, n bytes came.

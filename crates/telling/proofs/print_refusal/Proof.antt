@@ -1,11 +1,11 @@
--- `trail::print_refusal` keeps within its buffer: a refusal's line has 71 bytes at most.
+-- `telling::print_refusal` keeps within its buffer: a refusal's line has 71 bytes at most.
 -- Assumes nothing.
 use mathlib.Core.Path.{sym}
 use native.Mathlib.Omega.{arith}
 use lib.Seq.{length-take-le}
 use borrow.Author.Needs.{needs}
-use Rattle.trail.proofs.print_refusal.Statement.{statement}
-use Rattle.trail.proofs.print_refusal.Tie as tie
+use Rattle.telling.proofs.print_refusal.Statement.{statement}
+use Rattle.telling.proofs.print_refusal.Tie as tie
 
 slice-aggregate-refused : tie.Need-slice-aggregate-refused
 slice-aggregate-refused c = search needs
