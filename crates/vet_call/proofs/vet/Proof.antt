@@ -1,21 +1,21 @@
--- `vet::vet` meets its contract: the parts lie behind the head, each as long as announced or as came.
+-- `vet_call::vet` meets its contract: the parts lie behind the head, each as long as announced or as came.
 -- Assumes nothing.
-use Rattle.vet.proofs.Handed.{handed}
+use Rattle.vet_call.proofs.Handed.{handed}
 use borrow.Author.Needs.{needs}
-use Rattle.vet.proofs.vet.Statement.{statement}
-use Rattle.vet.proofs.vet.Tie as tie
+use Rattle.vet_call.proofs.vet.Statement.{statement}
+use Rattle.vet_call.proofs.vet.Tie as tie
 
 file-end-requires : tie.Need-file-end-requires
 file-end-requires c κs = search needs
 
-number-at-requires : tie.Need-number-at-requires
-number-at-requires c κs = search needs
+pair-at-requires : tie.Need-pair-at-requires
+pair-at-requires c κs = search needs
 
 part-end-requires : tie.Need-part-end-requires
 part-end-requires c κs = search needs
 
-number-at-requires-2 : tie.Need-number-at-requires-2
-number-at-requires-2 c κs = search needs
+pair-at-requires-2 : tie.Need-pair-at-requires-2
+pair-at-requires-2 c κs = search needs
 
 part-end-requires-2 : tie.Need-part-end-requires-2
 part-end-requires-2 c κs = search needs
@@ -29,8 +29,8 @@ part-chart-start c = search needs
 part-chart-end : tie.Need-part-chart-end
 part-chart-end c = search needs
 
-number-at-requires-3 : tie.Need-number-at-requires-3
-number-at-requires-3 c κs = search needs
+pair-at-requires-3 : tie.Need-pair-at-requires-3
+pair-at-requires-3 c κs = search needs
 
 sub-chart-2 : tie.Need-sub-chart-2
 sub-chart-2 c = search needs
@@ -62,7 +62,7 @@ returns c =
     let many = pairs .before in
     let end = many .before in
     let start = end .before .before in
-    handed (start .args .input .now) (start .args .n) (end .file-end .result) (many .number-at .result) (more .number-at2 .result)
+    handed (start .args .input .now) (start .args .n) (end .file-end .result) (many .pair-at .result) (more .pair-at2 .result)
     (pairs .part-end .result)
     (file .part-end2 .result)
     (end .file-end .ensures .2)
@@ -70,11 +70,11 @@ returns c =
     (file .part-end2 .ensures .0)
     (pairs .part-end .ensures .2)
     (file .part-end2 .ensures .2)
-    (crew .number-at3 .result)
+    (crew .pair-at3 .result)
     (c .chart .result)
-    (many .number-at .ensures .1)
-    (more .number-at2 .ensures .1)
-    (crew .number-at3 .ensures .1)
+    (many .pair-at .ensures .1)
+    (more .pair-at2 .ensures .1)
+    (crew .pair-at3 .ensures .1)
     (c .chart .ensures)
 
 pub vet-spec : {M : Type 1} → statement M
@@ -82,14 +82,14 @@ vet-spec =
     tie.close
     (tie.spec
     file-end-requires
-    number-at-requires
+    pair-at-requires
     part-end-requires
-    number-at-requires-2
+    pair-at-requires-2
     part-end-requires-2
     sub-chart
     part-chart-start
     part-chart-end
-    number-at-requires-3
+    pair-at-requires-3
     sub-chart-2
     part-chart-start-2
     part-chart-end-2

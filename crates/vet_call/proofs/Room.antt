@@ -12,7 +12,8 @@ use Rattle.study.proofs.Refusals.{numbered-some, refusals-numbered}
 use Rattle.lawful.specs.Lengths.{longestFile}
 use Rattle.lawful.proofs.Lengths.{longer-is-refused}
 use Rattle.charts.specs.Answers.{ChartAllows}
-use Rattle.vet.specs.Input.{inputLength, numberAt, behindHead, crewIn, actionsIn, pairsIn, fileIn}
+use Rattle.intake.specs.Numbers.{pairAt}
+use Rattle.vet_call.specs.Input.{inputLength, behindHead, crewIn, actionsIn, pairsIn, fileIn}
 
 too-long-is-refused :
     (file : List ℕ) (crew : ℕ) (actions pairs : List ℕ) → longestFile < length file → (r : Answer) → ChartAllows file crew actions pairs r → r .number ≢ 0
@@ -26,9 +27,9 @@ file-length input k full =
     ∙ ap (λ (n : ℕ). n - k) (length-take-le (inputLength - 6) (drop 6 input) (omega (arith, length-drop 6 input, full)))
 
 pub filled-is-refused :
-    (input : List ℕ) → length input ≡ inputLength → numberAt input 0 ≤ 65535 → numberAt input 2 ≤ 65535 → (r : Answer)
+    (input : List ℕ) → length input ≡ inputLength → pairAt input 0 ≤ 65535 → pairAt input 2 ≤ 65535 → (r : Answer)
     → ChartAllows (fileIn inputLength input) (crewIn input) (actionsIn inputLength input) (pairsIn inputLength input) r → r .number ≢ 0
 filled-is-refused input full many more =
     let long : longestFile < length (fileIn inputLength input) =
-    omega (arith, file-length input (numberAt input 0 + numberAt input 2) full, many, more) in
+    omega (arith, file-length input (pairAt input 0 + pairAt input 2) full, many, more) in
     too-long-is-refused (fileIn inputLength input) (crewIn input) (actionsIn inputLength input) (pairsIn inputLength input) long
