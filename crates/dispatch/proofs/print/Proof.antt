@@ -4,7 +4,7 @@ use mathlib.Core.Path.{refl, sym}
 use Prim.Native.Nat.{_*_}
 use native.Mathlib.Omega.{arith}
 use lib.Seq.{length-take-le}
-use Rattle.dispatch.proofs.Room.{journeys-fit}
+use Rattle.dispatch_call.proofs.Room.{journeys-fit}
 use borrow.Author.Needs.{needs}
 use Rattle.dispatch.proofs.print.Statement.{statement}
 use Rattle.dispatch.proofs.print.Tie as tie

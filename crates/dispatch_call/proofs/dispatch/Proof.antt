@@ -1,21 +1,21 @@
--- `dispatch::dispatch` meets its contract: the parts lie behind the head, each as long as announced or as came.
+-- `dispatch_call::dispatch` meets its contract: the parts lie behind the head, each as long as announced or as came.
 -- Assumes nothing.
-use Rattle.dispatch.proofs.Handed.{handed}
+use Rattle.dispatch_call.proofs.Handed.{handed}
 use borrow.Author.Needs.{needs}
-use Rattle.dispatch.proofs.dispatch.Statement.{statement}
-use Rattle.dispatch.proofs.dispatch.Tie as tie
+use Rattle.dispatch_call.proofs.dispatch.Statement.{statement}
+use Rattle.dispatch_call.proofs.dispatch.Tie as tie
 
 file-end-requires : tie.Need-file-end-requires
 file-end-requires c κs = search needs
 
-number-at-requires : tie.Need-number-at-requires
-number-at-requires c κs = search needs
+pair-at-requires : tie.Need-pair-at-requires
+pair-at-requires c κs = search needs
 
 part-end-requires : tie.Need-part-end-requires
 part-end-requires c κs = search needs
 
-number-at-requires-2 : tie.Need-number-at-requires-2
-number-at-requires-2 c κs = search needs
+pair-at-requires-2 : tie.Need-pair-at-requires-2
+pair-at-requires-2 c κs = search needs
 
 part-end-requires-2 : tie.Need-part-end-requires-2
 part-end-requires-2 c κs = search needs
@@ -29,8 +29,8 @@ part-journeys-start c = search needs
 part-journeys-end : tie.Need-part-journeys-end
 part-journeys-end c = search needs
 
-number-at-requires-3 : tie.Need-number-at-requires-3
-number-at-requires-3 c κs = search needs
+pair-at-requires-3 : tie.Need-pair-at-requires-3
+pair-at-requires-3 c κs = search needs
 
 sub-journeys-2 : tie.Need-sub-journeys-2
 sub-journeys-2 c = search needs
@@ -50,8 +50,8 @@ part-journeys-start-3 c = search needs
 part-journeys-end-3 : tie.Need-part-journeys-end-3
 part-journeys-end-3 c = search needs
 
-number-at-requires-4 : tie.Need-number-at-requires-4
-number-at-requires-4 c κs = search needs
+pair-at-requires-4 : tie.Need-pair-at-requires-4
+pair-at-requires-4 c κs = search needs
 
 journeys-requires : tie.Need-journeys-requires
 journeys-requires c κs = search needs
@@ -70,7 +70,7 @@ returns c =
     let many = rides .before in
     let end = many .before in
     let start = end .before .before .before in
-    handed (start .args .input .now) (start .args .n) (end .file-end .result) (many .number-at .result) (more .number-at2 .result)
+    handed (start .args .input .now) (start .args .n) (end .file-end .result) (many .pair-at .result) (more .pair-at2 .result)
     (rides .part-end .result)
     (file .part-end2 .result)
     (end .file-end .ensures .2)
@@ -78,15 +78,15 @@ returns c =
     (file .part-end2 .ensures .0)
     (rides .part-end .ensures .2)
     (file .part-end2 .ensures .2)
-    (crew .number-at3 .result)
-    (floor .number-at4 .result)
+    (crew .pair-at3 .result)
+    (floor .pair-at4 .result)
     (start .args .journeys .now)
     (made .journeys .result)
     _
-    (many .number-at .ensures .1)
-    (more .number-at2 .ensures .1)
-    (crew .number-at3 .ensures .1)
-    (floor .number-at4 .ensures .1)
+    (many .pair-at .ensures .1)
+    (more .pair-at2 .ensures .1)
+    (crew .pair-at3 .ensures .1)
+    (floor .pair-at4 .ensures .1)
     (made .journeys .ensures)
 
 pub dispatch-spec : {M : Type 1} → statement M
@@ -94,21 +94,21 @@ dispatch-spec =
     tie.close
     (tie.spec
     file-end-requires
-    number-at-requires
+    pair-at-requires
     part-end-requires
-    number-at-requires-2
+    pair-at-requires-2
     part-end-requires-2
     sub-journeys
     part-journeys-start
     part-journeys-end
-    number-at-requires-3
+    pair-at-requires-3
     sub-journeys-2
     part-journeys-start-2
     part-journeys-end-2
     sub-journeys-3
     part-journeys-start-3
     part-journeys-end-3
-    number-at-requires-4
+    pair-at-requires-4
     journeys-requires
     same-length
     returns)

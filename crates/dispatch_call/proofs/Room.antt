@@ -15,7 +15,8 @@ use Rattle.journeys.specs.Allowed.{JourneysAllows}
 use Rattle.journeys.proofs.Room.{answer-0-fits, never-13}
 use Rattle.journeys.proofs.Settled.{plan-refused-alike}
 use Rattle.answer.specs.Answers.{refusal}
-use Rattle.dispatch.specs.Input.{inputLength, mostBytes, numberAt, behindHead, crewIn, startIn, ranksIn, ridesIn, fileIn}
+use Rattle.intake.specs.Numbers.{pairAt}
+use Rattle.dispatch_call.specs.Input.{inputLength, mostBytes, behindHead, crewIn, startIn, ranksIn, ridesIn, fileIn}
 
 pub journeys-fit :
     (file : List ℕ) (crew : ℕ) (ranks rides : List ℕ) (start : ℕ) (before : List ℕ) (r : Answer) (after : List ℕ) → length before ≡ mostBytes
@@ -41,10 +42,10 @@ file-length input k full =
     ∙ ap (λ (n : ℕ). n - k) (length-take-le (inputLength - 8) (drop 8 input) (omega (arith, length-drop 8 input, full)))
 
 pub filled-is-refused :
-    (input : List ℕ) → length input ≡ inputLength → numberAt input 0 ≤ 65535 → numberAt input 2 ≤ 65535 → (before : List ℕ) (r : Answer) (after : List ℕ)
+    (input : List ℕ) → length input ≡ inputLength → pairAt input 0 ≤ 65535 → pairAt input 2 ≤ 65535 → (before : List ℕ) (r : Answer) (after : List ℕ)
     → JourneysAllows (fileIn inputLength input) (crewIn input) (ranksIn inputLength input) (ridesIn inputLength input) (startIn input) before r after
     → r .number ≢ 0
 filled-is-refused input full many more before =
     let long : longestFile < length (fileIn inputLength input) =
-    omega (arith, file-length input (numberAt input 0 + numberAt input 2) full, many, more) in
+    omega (arith, file-length input (pairAt input 0 + pairAt input 2) full, many, more) in
     too-long-is-refused (fileIn inputLength input) (crewIn input) (ranksIn inputLength input) (ridesIn inputLength input) (startIn input) before long
