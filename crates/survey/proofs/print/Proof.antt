@@ -3,7 +3,7 @@
 use mathlib.Core.Path.{sym}
 use native.Mathlib.Omega.{arith}
 use lib.Seq.{length-take-le}
-use Rattle.survey.proofs.Handed.{report-fits}
+use Rattle.survey_call.proofs.Handed.{report-fits}
 use borrow.Author.Needs.{needs}
 use Rattle.survey.proofs.print.Statement.{statement}
 use Rattle.survey.proofs.print.Tie as tie

@@ -2,8 +2,9 @@
 -- Assumes nothing.
 use Prim.Native.Nat.{ℕ, suc, _+_, _*_, _-_}
 use mathlib.Core.List.{List}
-use lib.ListN.{getD, take, drop}
+use lib.ListN.{take, drop}
 use Rattle.lawful.specs.Lengths.{longestFile}
+use Rattle.intake.specs.Numbers.{eightAt}
 
 -- a head of 24 bytes, and one byte more than the longest file has
 abbrev pub inputLength : ℕ
@@ -13,24 +14,14 @@ inputLength = 24 + suc longestFile
 abbrev pub longestReport : ℕ
 longestReport = 5 + 256 * 256
 
--- two bytes, four, and eight, most significant first
-abbrev pub pairAt : List ℕ → ℕ → ℕ
-pairAt input at = 256 * getD input at 0 + getD input (at + 1) 0
-
-abbrev pub fourAt : List ℕ → ℕ → ℕ
-fourAt input at = 65536 * pairAt input at + pairAt input (at + 2)
-
-abbrev pub numberAt : List ℕ → ℕ → ℕ
-numberAt input at = 4294967296 * fourAt input at + fourAt input (at + 4)
-
 abbrev pub crewIn : List ℕ → ℕ
-crewIn input = numberAt input 0
+crewIn input = eightAt input 0
 
 abbrev pub firstIn : List ℕ → ℕ
-firstIn input = numberAt input 8
+firstIn input = eightAt input 8
 
 abbrev pub countIn : List ℕ → ℕ
-countIn input = numberAt input 16
+countIn input = eightAt input 16
 
 -- what came behind the head, of n bytes that came
 abbrev pub fileIn : ℕ → List ℕ → List ℕ

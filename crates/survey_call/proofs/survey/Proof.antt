@@ -1,9 +1,9 @@
--- `survey::survey` meets its contract: the file lies behind the head, within the input.
+-- `survey_call::survey` meets its contract: the file lies behind the head, within the input.
 -- Assumes nothing.
-use Rattle.survey.proofs.Handed.{handed}
+use Rattle.survey_call.proofs.Handed.{handed}
 use borrow.Author.Needs.{needs}
-use Rattle.survey.proofs.survey.Statement.{statement}
-use Rattle.survey.proofs.survey.Tie as tie
+use Rattle.survey_call.proofs.survey.Statement.{statement}
+use Rattle.survey_call.proofs.survey.Tie as tie
 
 file-end-requires : tie.Need-file-end-requires
 file-end-requires c κs = search needs
@@ -17,14 +17,14 @@ part-report-start c = search needs
 part-report-end : tie.Need-part-report-end
 part-report-end c = search needs
 
-number-at-requires : tie.Need-number-at-requires
-number-at-requires c κs = search needs
+eight-at-requires : tie.Need-eight-at-requires
+eight-at-requires c κs = search needs
 
-number-at-requires-2 : tie.Need-number-at-requires-2
-number-at-requires-2 c κs = search needs
+eight-at-requires-2 : tie.Need-eight-at-requires-2
+eight-at-requires-2 c κs = search needs
 
-number-at-requires-3 : tie.Need-number-at-requires-3
-number-at-requires-3 c κs = search needs
+eight-at-requires-3 : tie.Need-eight-at-requires-3
+eight-at-requires-3 c κs = search needs
 
 report-requires : tie.Need-report-requires
 report-requires c κs = search needs
@@ -41,13 +41,13 @@ returns c =
     let end = crew .before .before in
     let start = end .before .before .before in
     handed (start .args .input .now) _ _ (w .report .result) _ (end .file-end .result)
-    (crew .number-at .result)
-    (first .number-at2 .result)
-    (count .number-at3 .result)
+    (crew .eight-at .result)
+    (first .eight-at2 .result)
+    (count .eight-at3 .result)
     (end .file-end .ensures .2)
-    (crew .number-at .ensures)
-    (first .number-at2 .ensures)
-    (count .number-at3 .ensures)
+    (crew .eight-at .ensures)
+    (first .eight-at2 .ensures)
+    (count .eight-at3 .ensures)
     (w .report .ensures)
 
 pub survey-spec : {M : Type 1} → statement M
@@ -58,9 +58,9 @@ survey-spec =
     sub-report
     part-report-start
     part-report-end
-    number-at-requires
-    number-at-requires-2
-    number-at-requires-3
+    eight-at-requires
+    eight-at-requires-2
+    eight-at-requires-3
     report-requires
     same-length
     returns)

@@ -18,7 +18,7 @@ use Rattle.study.specs.Reading.{Said, says, refused, readingFor}
 use Rattle.study.proofs.Refusals.{heard-some, refusals-heard}
 use Rattle.varied.specs.Figures.{reportOf}
 use Rattle.varied.specs.Report.{firstOutside, BySeeds, ReportsOn, ReportAllows}
-use Rattle.survey.specs.Input.{crewIn, firstIn, countIn, fileIn}
+use Rattle.survey_call.specs.Input.{crewIn, firstIn, countIn, fileIn}
 
 pub handed :
     (input before after : List ℕ) (r : Answer) (n end crew first count : ℕ)

@@ -28,7 +28,7 @@ use Rattle.varied.specs.Report.{firstOutside, BySeeds, ReportsOn, ReportAllows}
 use Rattle.varied.proofs.Comes.{straight-plan-short, Yields, a-first-plan, yields}
 use Rattle.varied.proofs.Alike.{plan-then-plans, barred-then-barred}
 use Rattle.varied.proofs.Told.{barred-report, plans-report-length}
-use Rattle.survey.specs.Input.{longestReport}
+use Rattle.survey_call.specs.Input.{longestReport}
 
 -- ---- the longest report
 
