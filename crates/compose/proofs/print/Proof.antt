@@ -3,7 +3,7 @@
 use mathlib.Core.Path.{sym}
 use native.Mathlib.Omega.{arith}
 use lib.Seq.{length-take-le}
-use Rattle.compose.proofs.Handed.{written-fits}
+use Rattle.compose_call.proofs.Handed.{written-fits}
 use borrow.Author.Needs.{needs}
 use Rattle.compose.proofs.print.Statement.{statement}
 use Rattle.compose.proofs.print.Tie as tie

@@ -18,7 +18,7 @@ use Rattle.study.proofs.Refusals.{numbered-some, refusals-numbered}
 use Rattle.spelling.specs.Lists.{fileOf}
 use Rattle.spelling.specs.Lent.{lent}
 use Rattle.spelling.specs.Write.{Writes, WriteAllows}
-use Rattle.compose.specs.Input.{situationIn, actionsAt, conditionsAt, crewsAt, tasksAt, endAt, between, variablesIn, actionsIn, conditionsIn, crewsIn, tasksIn}
+use Rattle.compose_call.specs.Input.{situationIn, actionsAt, conditionsAt, crewsAt, tasksAt, endAt, between, variablesIn, actionsIn, conditionsIn, crewsIn, tasksIn}
 
 pub handed :
     (input before after : List ℕ) (r : Answer) (a b c d e : ℕ)

@@ -1,38 +1,38 @@
--- `compose::compose` meets its contract: each list lies where the head says, within the input.
+-- `compose_call::compose` meets its contract: each list lies where the head says, within the input.
 -- Assumes nothing.
 use Prim.Native.Nat.{_+_}
 use native.Mathlib.Omega.{arith}
-use Rattle.compose.proofs.Handed.{handed}
+use Rattle.compose_call.proofs.Handed.{handed}
 use borrow.Author.Needs.{needs}
-use Rattle.compose.proofs.compose.Statement.{statement}
-use Rattle.compose.proofs.compose.Tie as tie
+use Rattle.compose_call.proofs.compose.Statement.{statement}
+use Rattle.compose_call.proofs.compose.Tie as tie
 
-number-at-requires : tie.Need-number-at-requires
-number-at-requires c κs = search needs
+pair-at-requires : tie.Need-pair-at-requires
+pair-at-requires c κs = search needs
 
 add-actions : tie.Need-add-actions
 add-actions c = search needs
 
-number-at-requires-2 : tie.Need-number-at-requires-2
-number-at-requires-2 c κs = search needs
+pair-at-requires-2 : tie.Need-pair-at-requires-2
+pair-at-requires-2 c κs = search needs
 
 add-conditions : tie.Need-add-conditions
 add-conditions c = search needs
 
-number-at-requires-3 : tie.Need-number-at-requires-3
-number-at-requires-3 c κs = search needs
+pair-at-requires-3 : tie.Need-pair-at-requires-3
+pair-at-requires-3 c κs = search needs
 
 add-crews : tie.Need-add-crews
 add-crews c = search needs
 
-number-at-requires-4 : tie.Need-number-at-requires-4
-number-at-requires-4 c κs = search needs
+pair-at-requires-4 : tie.Need-pair-at-requires-4
+pair-at-requires-4 c κs = search needs
 
 add-tasks : tie.Need-add-tasks
 add-tasks c = search needs
 
-number-at-requires-5 : tie.Need-number-at-requires-5
-number-at-requires-5 c κs = search needs
+pair-at-requires-5 : tie.Need-pair-at-requires-5
+pair-at-requires-5 c κs = search needs
 
 add-end : tie.Need-add-end
 add-end c = search needs
@@ -100,16 +100,16 @@ returns c =
     let n2 = n3 .before in
     let n1 = n2 .before in
     let start = n1 .before .before .before in
-    let first = n1 .number-at .ensures .1 in
-    let second = n2 .number-at2 .ensures .1 in
-    let third = n3 .number-at3 .ensures .1 in
-    let fourth = n4 .number-at4 .ensures .1 in
-    let fifth = n5 .number-at5 .ensures .1 in
-    let a = 11 + n1 .number-at .result in
-    let b = a + n2 .number-at2 .result in
-    let k = b + n3 .number-at3 .result in
-    let t = k + n4 .number-at4 .result in
-    let e = t + n5 .number-at5 .result in
+    let first = n1 .pair-at .ensures .1 in
+    let second = n2 .pair-at2 .ensures .1 in
+    let third = n3 .pair-at3 .ensures .1 in
+    let fourth = n4 .pair-at4 .ensures .1 in
+    let fifth = n5 .pair-at5 .ensures .1 in
+    let a = 11 + n1 .pair-at .result in
+    let b = a + n2 .pair-at2 .result in
+    let k = b + n3 .pair-at3 .result in
+    let t = k + n4 .pair-at4 .result in
+    let e = t + n5 .pair-at5 .result in
     handed (start .args .input .now) _ _ (w .write .result) a b k t e
     (omega (arith, first))
     (omega (arith, first, second))
@@ -122,15 +122,15 @@ pub compose-spec : {M : Type 1} → statement M
 compose-spec =
     tie.close
     (tie.spec
-    number-at-requires
+    pair-at-requires
     add-actions
-    number-at-requires-2
+    pair-at-requires-2
     add-conditions
-    number-at-requires-3
+    pair-at-requires-3
     add-crews
-    number-at-requires-4
+    pair-at-requires-4
     add-tasks
-    number-at-requires-5
+    pair-at-requires-5
     add-end
     shared-slice-read-write
     sub-write
