@@ -15,7 +15,7 @@ use Rattle.study.specs.Reading.{Said, says, refused}
 use Rattle.replays.specs.Log.{Log, event, other, eventKind, mostEvents, eventLength, logOf}
 use Rattle.replays.specs.Replay.{Progress, Replayed, stops, atStart, seen, stepAt, wentBack, replayOn, replayed}
 use Rattle.replays.proofs.Events.{one-more}
-use Rattle.trail.specs.Input.{longestLog}
+use Rattle.trail_call.specs.Input.{longestLog}
 
 -- the bytes of so many events, and of one more
 abbrev room : ℕ → ℕ

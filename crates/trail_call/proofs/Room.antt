@@ -12,7 +12,7 @@ use Rattle.study.proofs.Refusals.{numbered-some, refusals-numbered}
 use Rattle.lawful.specs.Lengths.{longestFile}
 use Rattle.lawful.proofs.Lengths.{longer-is-refused}
 use Rattle.replays.specs.Replay.{replayed, ReplayAllows}
-use Rattle.trail.specs.Input.{longestLog, inputLength, announced, behindHead, crewIn, logIn, fileIn}
+use Rattle.trail_call.specs.Input.{longestLog, inputLength, announced, behindHead, crewIn, logIn, fileIn}
 
 too-long-is-refused :
     (file : List ℕ) (crew : ℕ) (log before after : List ℕ) → longestFile < length file → (r : Answer) → ReplayAllows file crew log before r after

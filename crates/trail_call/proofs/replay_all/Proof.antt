@@ -1,9 +1,9 @@
--- `trail::replay_all` meets its contract: what is announced of the log, or came, is all of it.
+-- `trail_call::replay_all` meets its contract: what is announced of the log, or came, is all of it.
 -- Assumes nothing.
-use Rattle.trail.proofs.Handed.{whole-log}
+use Rattle.trail_call.proofs.Handed.{whole-log}
 use borrow.Author.Needs.{needs}
-use Rattle.trail.proofs.replay_all.Statement.{statement}
-use Rattle.trail.proofs.replay_all.Tie as tie
+use Rattle.trail_call.proofs.replay_all.Statement.{statement}
+use Rattle.trail_call.proofs.replay_all.Tie as tie
 
 four-at-requires : tie.Need-four-at-requires
 four-at-requires c κs = search needs

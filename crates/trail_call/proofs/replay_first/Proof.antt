@@ -1,9 +1,9 @@
--- `trail::replay_first` meets its contract: log and file lie behind the head, the log as long as announced or as came, and cut.
+-- `trail_call::replay_first` meets its contract: log and file lie behind the head, the log as long as announced or as came, and cut.
 -- Assumes nothing.
-use Rattle.trail.proofs.Handed.{handed}
+use Rattle.trail_call.proofs.Handed.{handed}
 use borrow.Author.Needs.{needs}
-use Rattle.trail.proofs.replay_first.Statement.{statement}
-use Rattle.trail.proofs.replay_first.Tie as tie
+use Rattle.trail_call.proofs.replay_first.Statement.{statement}
+use Rattle.trail_call.proofs.replay_first.Tie as tie
 
 file-end-requires : tie.Need-file-end-requires
 file-end-requires c κs = search needs
@@ -26,8 +26,8 @@ part-replay-start c = search needs
 part-replay-end : tie.Need-part-replay-end
 part-replay-end c = search needs
 
-number-at-requires : tie.Need-number-at-requires
-number-at-requires c κs = search needs
+eight-at-requires : tie.Need-eight-at-requires
+eight-at-requires c κs = search needs
 
 sub-replay-2 : tie.Need-sub-replay-2
 sub-replay-2 c = search needs
@@ -56,12 +56,12 @@ returns c =
     (file .part-end .ensures .0)
     (file .part-end .ensures .2)
     (cut .part-end2 .ensures .2)
-    (crew .number-at .result)
+    (crew .eight-at .result)
     _
     _
     (c .replay .result)
     (many .four-at .ensures .1)
-    (crew .number-at .ensures)
+    (crew .eight-at .ensures)
     (c .replay .ensures)
 
 pub replay-first-spec : {M : Type 1} → statement M
@@ -75,7 +75,7 @@ replay-first-spec =
     sub-replay
     part-replay-start
     part-replay-end
-    number-at-requires
+    eight-at-requires
     sub-replay-2
     part-replay-start-2
     part-replay-end-2

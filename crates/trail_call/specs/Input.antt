@@ -2,9 +2,10 @@
 -- Assumes nothing.
 use Prim.Native.Nat.{ℕ, suc, _+_, _*_, _-_}
 use mathlib.Core.List.{List}
-use lib.ListN.{getD, take, drop}
+use lib.ListN.{take, drop}
 use Rattle.lawful.specs.Lengths.{longestFile}
 use Rattle.replays.specs.Log.{mostEvents, eventLength}
+use Rattle.intake.specs.Numbers.{fourAt, eightAt}
 
 -- one event more than a log may have: what is refused of a longer one stands in these
 abbrev pub longestLog : ℕ
@@ -14,18 +15,8 @@ longestLog = suc mostEvents * eventLength
 abbrev pub inputLength : ℕ
 inputLength = 12 + longestLog + suc longestFile
 
--- two bytes, four, and eight, most significant first
-abbrev pub pairAt : List ℕ → ℕ → ℕ
-pairAt input at = 256 * getD input at 0 + getD input (at + 1) 0
-
-abbrev pub fourAt : List ℕ → ℕ → ℕ
-fourAt input at = 65536 * pairAt input at + pairAt input (at + 2)
-
-abbrev pub numberAt : List ℕ → ℕ → ℕ
-numberAt input at = 4294967296 * fourAt input at + fourAt input (at + 4)
-
 abbrev pub crewIn : List ℕ → ℕ
-crewIn input = numberAt input 0
+crewIn input = eightAt input 0
 
 -- how long a log is announced
 abbrev pub announced : List ℕ → ℕ
