@@ -47,7 +47,11 @@ fn print_answer(answer: Answer) {
 fn print_records(input: &[u8], n: usize)
     requires { ⌜ (length (now input) ≡ inputLength) × (n ≤ inputLength) ⌝ }
 {
-    let file = intake::part_end(12, intake::four_at(input, 8), intake::file_end(12, n, input.len()));
+    let file = intake::part_end(
+        12,
+        intake::four_at(input, 8),
+        intake::file_end(12, n, input.len()),
+    );
     let mut left = (file - 12) / 4 + 1;
     let mut len = 0;
     while 0 < left {
