@@ -21,7 +21,7 @@ pub fn load(
         → length (now (crews .entry)) ≡ 8
         → Reads (now (file .entry)) (seenAll (now (acts .exit)) (now (vars .exit)) (now (setters .exit))) (now (crews .exit)) r) ⌝ }
 {
-    let mut p = Progress {
+    let begin = Progress {
         at: 0,
         situation: 0,
         vars: 0,
@@ -34,13 +34,15 @@ pub fn load(
         crews: 0,
         used: 0,
     };
+    let placed = skimming::present(file, begin);
+    let varied = skimming::variables(file, placed, vars);
+    let acted = skimming::actions(file, varied, acts, vars);
+    let mut p = rostering::crews(file, acted, vars, crews);
     loop {
         let taken = pacing::step(file, p, acts, vars, setters, crews);
         match taken {
             Step::On(next) => {
-                let read = skimming::variables(file, next, vars);
-                let acted = skimming::actions(file, read, acts, vars);
-                p = skimming::tasks(file, acted, vars);
+                p = next;
             }
             Step::Refused { number, place } => {
                 return Read::Refused { number, place };

@@ -2,6 +2,7 @@
 ghost use mathlib.Core.Path.{_≡_};
 ghost use mathlib.Core.Bool.{true};
 ghost use Prim.Native.Nat.{_+_, _≤_, _<_};
+ghost use lib.ListN.{length};
 ghost use Rattle.records.specs.declared.Found.the-variants.{There};
 ghost use Rattle.records.specs.Records.{bodyLength, recordAt, bodyAt, bodied};
 
@@ -62,19 +63,17 @@ pub fn record_at(file: &[u8], at: usize) -> Found
     with_body(len, at, kind, body_length(kind))
 }
 
-// Whether a whole record of this kind stands at a place, its body so long: for who asks for one kind alone. Who is told no
-// is told nothing else, and asks record_at.
+// Whether a whole record of this kind stands at a place of the file or at its end, its body so long: for who asks for one kind
+// alone. Who is told no is told nothing else, and asks record_at.
 pub fn is_at(file: &[u8], at: usize, kind: u8, body: usize) -> bool
+    requires { ⌜ at ≤ length (now file) ⌝ }
     ensures { λ r. ⌜ (1 ≤ kind → kind ≤ 9 → body ≡ bodyLength kind → r ≡ true
         → recordAt (now (file .entry)) at ≡ There kind (at + 1) (at + 1 + body)) ⌝ }
 {
-    if file.len() <= at {
+    if file.len() - at <= body {
         return false;
     }
-    if file[at] != kind {
-        return false;
-    }
-    body < file.len() - at
+    file[at] == kind
 }
 
 // The body of the record at a place, as the part of the file that holds it; empty where no record is there.

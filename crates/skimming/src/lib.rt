@@ -1,60 +1,45 @@
-// Runs of good records of one kind, taken without the general step: variables, actions with what belongs to them, tasks.
+// The sections of a file up to its last action, good records taken one after another: the situation, variables, actions.
 ghost use mathlib.Core.List.{List};
 ghost use Prim.Native.Nat.{ℕ, _≤_};
-ghost use Rattle.tables.specs.Tables.{ActionTables, tables};
+ghost use lib.ListN.{length};
+ghost use Rattle.tables.specs.Tables.{ActionTables, Tables, tables};
 ghost use Rattle.tables.specs.Rows.{countColumn, seenAll};
 ghost use Rattle.standing.specs.Reads.{Safe};
 ghost use Rattle.standing.specs.Halfway.{Halfway, beside};
 use advancing::Progress;
 use advancing::Step;
+use judging::order;
 
 const VARIABLE: u8 = 1;
 
 const ACTION: u8 = 2;
 
-const TASK: u8 = 4;
+const SITUATION: u8 = 8;
 
-// After an action, all that belongs to it, and actions that have no fault one after another. Whatever comes then is left to
-// the general step.
-pub fn actions(
-    file: &[u8],
-    begin: Progress,
-    acts: &mut [[u8; 6]; 256],
-    rows: &[[u8; 3]; 32],
-) -> Progress
-    requires { ⌜ Safe (now file) begin (countColumn (now rows)) ⌝ }
-    ensures { λ r. ⌜ Safe (now (file .entry)) r (countColumn (now (rows .entry))) × (begin .at ≤ r .at) ⌝ }
-    ensures { λ r. ⌜ ((setters begins : List ℕ)
-        → Halfway (now (file .entry)) (seenAll (now (acts .entry)) (now (rows .entry)) setters) begins begin
-        → Halfway (now (file .entry)) (seenAll (now (acts .exit)) (now (rows .entry)) setters) begins r) ⌝ }
+// The situation, where one stands first. Whatever else comes is left to the general step.
+pub fn present(file: &[u8], begin: Progress) -> Progress
+    requires { ⌜ begin .at ≤ length (now file) ⌝ }
+    ensures { λ r. ⌜ ((counts : List ℕ) → Safe (now (file .entry)) begin counts → Safe (now (file .entry)) r counts × (begin .at ≤ r .at)) ⌝ }
+    ensures { λ r. ⌜ ((t : Tables) (begins : List ℕ)
+        → Safe (now (file .entry)) begin (t .counts)
+        → Halfway (now (file .entry)) t begins begin
+        → Halfway (now (file .entry)) t begins r) ⌝ }
 {
-    if begin.last != ACTION {
+    let at = begin.at;
+    if !order::may_follow(begin.tasks < begin.vars, begin.last, SITUATION) {
         return begin;
     }
-    let mut p = begin;
-    loop {
-        p = gathering::whole_action(file, p, acts, rows);
-        let at = p.at;
-        if !records::is_at(file, at, ACTION, 3) {
-            return p;
-        }
-        let step = entering::on_action(
-            p,
-            file[at + 1],
-            file[at + 2],
-            file[at + 3],
-            at + 4,
-            rows,
-            acts,
-        );
-        let Step::On(next) = step else {
-            return p;
-        };
-        p = next;
+    if !records::is_at(file, at, SITUATION, 1) {
+        return begin;
     }
+    let step = advancing::on_present(begin, file[at + 1], at + 2);
+    let Step::On(next) = step else {
+        return begin;
+    };
+    next
 }
 
-// After a variable, variables that have no fault one after another. Whatever comes then is left to the general step.
+// Variables that have no fault one after another, where one may come. Whatever comes then is left to the general step.
 pub fn variables(file: &[u8], begin: Progress, rows: &mut [[u8; 3]; 32]) -> Progress
     requires { ⌜ Safe (now file) begin (countColumn (now rows)) ⌝ }
     ensures { λ r. ⌜ Safe (now (file .entry)) r (countColumn (now (rows .exit))) × (begin .at ≤ r .at) ⌝ }
@@ -62,7 +47,7 @@ pub fn variables(file: &[u8], begin: Progress, rows: &mut [[u8; 3]; 32]) -> Prog
         → Halfway (now (file .entry)) (beside (now (rows .entry)) acts) begins begin
         → Halfway (now (file .entry)) (beside (now (rows .exit)) acts) begins r) ⌝ }
 {
-    if begin.last != VARIABLE {
+    if !order::may_follow(begin.tasks < begin.vars, begin.last, VARIABLE) {
         return begin;
     }
     let mut p = begin;
@@ -79,31 +64,41 @@ pub fn variables(file: &[u8], begin: Progress, rows: &mut [[u8; 3]; 32]) -> Prog
     }
 }
 
-// After a task, tasks that have no fault one after another, while a variable is left. Whatever comes then is left to the
-// general step.
-pub fn tasks(file: &[u8], begin: Progress, rows: &[[u8; 3]; 32]) -> Progress
+// Actions that have no fault one after another, each with all that belongs to it, where one may come. Whatever comes then is
+// left to the general step.
+pub fn actions(
+    file: &[u8],
+    begin: Progress,
+    acts: &mut [[u8; 6]; 256],
+    rows: &[[u8; 3]; 32],
+) -> Progress
     requires { ⌜ Safe (now file) begin (countColumn (now rows)) ⌝ }
     ensures { λ r. ⌜ Safe (now (file .entry)) r (countColumn (now (rows .entry))) × (begin .at ≤ r .at) ⌝ }
-    ensures { λ r. ⌜ ((acts : ActionTables) (starts goals begins : List ℕ)
-        → Halfway (now (file .entry)) (tables (countColumn (now (rows .entry))) acts starts goals) begins begin
-        → Halfway (now (file .entry)) (tables (countColumn (now (rows .entry))) acts starts goals) begins r) ⌝ }
+    ensures { λ r. ⌜ ((setters begins : List ℕ)
+        → Halfway (now (file .entry)) (seenAll (now (acts .entry)) (now (rows .entry)) setters) begins begin
+        → Halfway (now (file .entry)) (seenAll (now (acts .exit)) (now (rows .entry)) setters) begins r) ⌝ }
 {
-    if begin.last != TASK {
+    if !order::may_follow(begin.tasks < begin.vars, begin.last, ACTION) {
         return begin;
     }
     let mut p = begin;
     loop {
         let at = p.at;
-        if p.vars <= p.tasks {
+        if !records::is_at(file, at, ACTION, 3) {
             return p;
         }
-        if !records::is_at(file, at, TASK, 3) {
-            return p;
-        }
-        let step = advancing::on_task(p, file[at + 1], file[at + 2], file[at + 3], at + 4, rows);
+        let step = entering::on_action(
+            p,
+            file[at + 1],
+            file[at + 2],
+            file[at + 3],
+            at + 4,
+            rows,
+            acts,
+        );
         let Step::On(next) = step else {
             return p;
         };
-        p = next;
+        p = gathering::whole_action(file, next, acts, rows);
     }
 }

@@ -1,25 +1,24 @@
--- Runs of records that are taken one after another: variables, actions, each with its conditions and its situations, and tasks.
+-- Runs of records that are taken one after another: the situation, variables, actions, each with its conditions and its situations, and crews, each with its tasks and its seed.
 -- Assumes nothing.
 use mathlib.Core.Path.{_≡_, refl, sym}
 use mathlib.Core.Bool.{Bool, true}
 use mathlib.Core.List.{List}
-use Prim.Native.Nat.{ℕ, _+_, _-_, _/_, _%_, _≤_, _<_}
+use Prim.Native.Nat.{ℕ, _+_, _-_, _*_, _/_, _%_, _≤_}
 use native.Mathlib.Omega.{arith}
 use lib.Dec.{eqb, ltb}
 use lib.ListN.{getD, set}
 use lib.Seq.{set-set, set-getD}
-use borrow.Author.Tests.{lt-ltb}
 use Rattle.records.specs.Records.{recordAt}
 use Rattle.records.specs.declared.Found.the-variants.{There}
 use Rattle.study.specs.Reading.{mayFollow}
-use Rattle.tables.specs.Tables.{ActionTables, Tables, tables}
-use Rattle.judging.specs.Faults.{variableFault, actionFault, conditionFault, taskFault, timesFault}
+use Rattle.tables.specs.Tables.{ActionTables, Tables, tables, seedOf}
+use Rattle.judging.specs.Faults.{variableFault, actionFault, conditionFault, taskFault, seedFault, timesFault, presentFault, crewFault}
 use Rattle.advancing.specs.declared.Progress.{Progress}
 use Rattle.advancing.specs.declared.Step.the-variants.{On}
-use Rattle.advancing.specs.Steps.{afterVariable, afterAction, afterCondition, afterTask, afterTimes, stored, storedAction, withMany, storedMany, outBy}
+use Rattle.advancing.specs.Steps.{afterVariable, afterAction, afterCondition, afterTask, afterSeed, afterTimes, afterPresent, afterCrew, stored, storedAction, withMany, storedMany, outBy}
 use Rattle.standing.specs.Reads.{Safe}
 use Rattle.standing.specs.Halfway.{Halfway}
-use Rattle.standing.proofs.Arms.{Answers, may-condition, may-times, variable-arm, action-arm, condition-arm, task-arm, times-arm}
+use Rattle.standing.proofs.Arms.{Answers, may-condition, may-times, variable-arm, action-arm, condition-arm, task-arm, seed-arm, times-arm, present-arm, crew-arm}
 use Rattle.standing.proofs.Pass.{goes-on}
 
 -- the conditions of the last action: the tables are told of with their number entered, though it is entered only after the last of them
@@ -84,41 +83,85 @@ action-taken file p t begins safe may there v x y ev ex ey f ef good =
     let third : p .at + 1 + 2 ≡ p .at + 3 = omega arith in
     rw good (rw good at (action-arm file p (p .at + 1) (p .at + 4) t begins safe (rw next at there) may v x y ev (rw second ex) (rw third ey) f ef))
 
-may-variable : (left : Bool) {last : ℕ} → last ≡ 1 → mayFollow left last 1 ≡ true
+pub may-variable : (left : Bool) {last : ℕ} → last ≡ 1 → mayFollow left last 1 ≡ true
 unfolding mayFollow
 may-variable left e = rw e refl
 
-may-task : {left : Bool} {last : ℕ} → last ≡ 4 → left ≡ true → mayFollow left last 4 ≡ true
+pub may-task : {left : Bool} {last : ℕ} → last ≡ 4 → left ≡ true → mayFollow left last 4 ≡ true
 unfolding mayFollow
 may-task e l = rw (e, l) refl
 
--- a variable after a variable, without fault
+may-crew : (left : Bool) {last : ℕ} → last ≡ 5 → mayFollow left last 9 ≡ true
+unfolding mayFollow
+may-crew left e = rw e refl
+
+-- a situation that may follow, without fault
+pub present-taken :
+    (file : List ℕ) (p : Progress) (t : Tables) (begins : List ℕ)
+    → Safe file p (t .counts)
+    → mayFollow (ltb (p .tasks) (p .vars)) (p .last) 8 ≡ true
+    → recordAt file (p .at) ≡ There 8 (p .at + 1) (p .at + 1 + 1)
+    → (n : ℕ) → n ≡ getD file (p .at + 1) 0
+    → eqb (presentFault n) 0 ≡ true
+    → Answers file p t begins t begins (On (afterPresent p n (p .at + 2)))
+present-taken file p t begins safe may there n en good =
+    let next : p .at + 1 + 1 ≡ p .at + 2 = omega arith in
+    rw good at (present-arm file p (p .at + 1) (p .at + 2) t begins safe (rw next at there) may n en)
+
+-- a variable that may follow, without fault
 pub variable-taken :
     (file : List ℕ) (p : Progress) (t : Tables) (begins : List ℕ)
     → Safe file p (t .counts)
-    → p .last ≡ 1
+    → mayFollow (ltb (p .tasks) (p .vars)) (p .last) 1 ≡ true
     → recordAt file (p .at) ≡ There 1 (p .at + 1) (p .at + 1 + 1)
     → (n : ℕ) → n ≡ getD file (p .at + 1) 0
     → eqb (variableFault (p .vars) n) 0 ≡ true
     → Answers file p t begins (tables (stored (variableFault (p .vars) n) (t .counts) (p .vars) n) (t .acts) (t .starts) (t .goals)) begins (On (afterVariable p (p .at + 2)))
-variable-taken file p t begins safe last there n en good =
+variable-taken file p t begins safe may there n en good =
     let next : p .at + 1 + 1 ≡ p .at + 2 = omega arith in
-    rw good (rw good at (variable-arm file p (p .at + 1) (p .at + 2) t begins safe (rw next at there) (may-variable _ last) n en))
+    rw good (rw good at (variable-arm file p (p .at + 1) (p .at + 2) t begins safe (rw next at there) may n en))
 
--- a task after a task, without fault, where a variable is left
+-- a task that may follow, without fault
 pub task-taken :
     (file : List ℕ) (p : Progress) (t : Tables) (begins : List ℕ)
     → Safe file p (t .counts)
-    → p .last ≡ 4
-    → p .tasks < p .vars
+    → mayFollow (ltb (p .tasks) (p .vars)) (p .last) 4 ≡ true
     → recordAt file (p .at) ≡ There 4 (p .at + 1) (p .at + 1 + 3)
     → (v x y : ℕ) → v ≡ getD file (p .at + 1) 0 → x ≡ getD file (p .at + 2) 0 → y ≡ getD file (p .at + 3) 0
     → (f : ℕ) → f ≡ taskFault (t .counts) (p .vars) (p .tasks) v x y
     → eqb f 0 ≡ true
     → Answers file p t begins t begins (On (afterTask p (p .at + 4)))
-task-taken file p t begins safe last left there v x y ev ex ey f ef good =
+task-taken file p t begins safe may there v x y ev ex ey f ef good =
     let next : p .at + 1 + 3 ≡ p .at + 4 = omega arith in
     let second : p .at + 1 + 1 ≡ p .at + 2 = omega arith in
     let third : p .at + 1 + 2 ≡ p .at + 3 = omega arith in
     rw good at
-    (task-arm file p (p .at + 1) (p .at + 4) t begins safe (rw next at there) (may-task last (lt-ltb (p .tasks) (p .vars) left)) v x y ev (rw second ex) (rw third ey) f ef)
+    (task-arm file p (p .at + 1) (p .at + 4) t begins safe (rw next at there) may v x y ev (rw second ex) (rw third ey) f ef)
+
+-- a seed that may follow, without fault
+pub seed-taken :
+    (file : List ℕ) (p : Progress) (t : Tables) (begins : List ℕ)
+    → Safe file p (t .counts)
+    → mayFollow (ltb (p .tasks) (p .vars)) (p .last) 5 ≡ true
+    → recordAt file (p .at) ≡ There 5 (p .at + 1) (p .at + 1 + 4)
+    → (n : ℕ) → n ≡ seedOf (getD file (p .at + 1) 0) (getD file (p .at + 2) 0) (getD file (p .at + 3) 0) (getD file (p .at + 4) 0)
+    → eqb (seedFault n) 0 ≡ true
+    → Answers file p t begins t (stored (seedFault n) begins (p .crews) (p .at - 4 * p .tasks)) (On (afterSeed p (p .at + 5)))
+seed-taken file p t begins safe may there n en good =
+    let next : p .at + 1 + 4 ≡ p .at + 5 = omega arith in
+    let second : p .at + 1 + 1 ≡ p .at + 2 = omega arith in
+    let third : p .at + 1 + 2 ≡ p .at + 3 = omega arith in
+    let fourth : p .at + 1 + 3 ≡ p .at + 4 = omega arith in
+    rw good (rw good at (seed-arm file p (p .at + 1) (p .at + 5) t begins safe (rw next at there) may n (rw (second, third, fourth) en)))
+
+-- the opening of the next crew after a seed, without fault
+pub crew-taken :
+    (file : List ℕ) (p : Progress) (t : Tables) (begins : List ℕ)
+    → Safe file p (t .counts)
+    → p .last ≡ 5
+    → recordAt file (p .at) ≡ There 9 (p .at + 1) (p .at + 1 + 0)
+    → eqb (crewFault (p .crews)) 0 ≡ true
+    → Answers file p t begins t begins (On (afterCrew p (p .at + 1)))
+crew-taken file p t begins safe last there good =
+    let next : p .at + 1 + 0 ≡ p .at + 1 = omega arith in
+    rw good at (crew-arm file p (p .at + 1) (p .at + 1) t begins safe (rw next at there) (may-crew _ last))

@@ -1,9 +1,11 @@
--- `skimming::actions` meets its contract: each turn takes what belongs to an action, and the next one where it has no fault.
+-- `skimming::actions` meets its contract: each turn takes an action that has no fault, and what belongs to it.
 -- Assumes nothing.
 use mathlib.Core.Path.{_≡_, refl, ap, _∙_}
+use mathlib.Core.Bool.{true}
 use mathlib.Core.List.{List, []}
 use Prim.Native.Nat.{ℕ, _+_, _-_, _≤_}
 use native.Mathlib.Omega.{arith}
+use lib.Dec.{ltb}
 use lib.ListN.{length, getD}
 use denote.Ref.{now}
 use borrow.Author.Needs.{needs}
@@ -11,9 +13,11 @@ use borrow.Author.Tests.{not-false}
 use Rattle.records.specs.Records.{recordAt, bodyLength, bodyLengths}
 use Rattle.records.specs.declared.Found.the-variants.{There}
 use Rattle.records.proofs.Laws.{there-lies}
+use Rattle.study.specs.Reading.{mayFollow}
 use Rattle.tables.specs.Tables.{Tables}
-use Rattle.tables.specs.Rows.{countColumn, seen, seenAll}
+use Rattle.tables.specs.Rows.{Row, countColumn, seen, seenAll}
 use Rattle.judging.specs.Faults.{actionFault}
+use Rattle.judging.proofs.Tests.{not-left}
 use Rattle.advancing.specs.declared.Progress.{Progress}
 use Rattle.advancing.specs.declared.Step.the-variants.{On}
 use Rattle.advancing.specs.Steps.{afterAction}
@@ -29,24 +33,27 @@ use Rattle.skimming.proofs.actions.Tie as tie
 abbrev Inv-loop : tie.InvT-loop
 Inv-loop file acts₀ rows p₀ acts p =
     (Safe file p (countColumn rows) × (p₀ .at ≤ p .at))
-    × ((p .last ≡ 2)
+    × ((mayFollow (ltb (p .tasks) (p .vars)) (p .last) 2 ≡ true)
     × ((setters begins : List ℕ) → Halfway file (seenAll acts₀ rows setters) begins p₀ → Halfway file (seenAll acts rows setters) begins p))
 
 abbrev μ-loop : tie.MeasureT-loop
 μ-loop file acts₀ rows p₀ acts p = length file - p .at
 
--- where an action has been found after what belongs to the last one: the file, how far it has been read, the tables, what is found
+-- where an action has been found: the file, how far it has been read, the tables, what is found
 abbrev Found : Type 0
 Found = tie.Else2 Inv-loop μ-loop
 
 abbrev file-of : Found → List ℕ
-file-of e = now (e .before .before .before .before .before .before .before .before .args .file)
+file-of e = now (e .before .before .before .before .before .before .before .args .file)
 
 abbrev run-of : Found → Progress
-run-of e = e .before .before .whole-action .result
+run-of e = e .before .before .loop .p
+
+abbrev rows-of : Found → List Row
+rows-of e = now (e .before .before .before .before .before .before .before .args .rows)
 
 abbrev held : Found → List ℕ → Tables
-held e = seenAll (e .before .before .whole-action .last .1 .1 .0) (now (e .before .before .before .before .before .before .before .before .args .rows))
+held e = seenAll (e .before .before .loop .acts) (rows-of e)
 
 abbrev byte : Found → ℕ → ℕ
 byte e i = getD (file-of e) (run-of e .at + i) 0
@@ -80,34 +87,31 @@ taken :
     (c : tie.After-known-told Inv-loop μ-loop) (setters begins : List ℕ)
     → Answers (file-of (c .before .before .before .before .before .before .before .before)) (run-of (c .before .before .before .before .before .before .before .before))
     (held (c .before .before .before .before .before .before .before .before) setters) begins
-    (seenAll (c .before .before .before .on-action .last .1 .1 .1 .1 .1 .1 .0) (now (c .before .before .before .before .before .before .before .before .before .before .before .before .before .before .before .before .args .rows)) setters)
+    (seenAll (c .before .before .before .on-action .last .1 .1 .1 .1 .1 .1 .0) (rows-of (c .before .before .before .before .before .before .before .before)) setters)
     begins (On (c .before .step .given .0 .0))
 taken c setters begins =
     let m = c .before .before in
     let t = m .before in
     let e = t .before .before .before .before .before in
-    let ((safe, _), (may, _)) = e .before .before .whole-action .ensures in
+    let ((safe, _), (may, _)) = e .before .before .loop .inv in
     rw (next-is c, t .on-action .ensures .1 setters)
     (action-taken (file-of e) (run-of e) (held e setters) begins safe may (is-there e) _ _ _ refl refl refl (fault-of e) refl
     (faultless (fault-of e) (run-of e .at) (after e) (t .on-action .ensures .0) (m .match .keys1)))
+
+may-follow-requires : tie.Need-may-follow-requires Inv-loop μ-loop
+may-follow-requires c κs = search needs
 
 returns : tie.Need-returns Inv-loop μ-loop
 returns c = search needs
 
 loop-holds : tie.Need-loop-holds Inv-loop μ-loop
-loop-holds c = ((c .before .before .before .pre, omega arith), (c .if1 .left, λ setters begins h. h))
-
-whole-action-requires : tie.Need-whole-action-requires Inv-loop μ-loop
-whole-action-requires c κs = let ((safe, _), (last, _)) = c .before .loop .inv in (safe, last)
+loop-holds c = ((c .before .before .before .before .pre, omega arith), (not-left (c .before .may-follow .ensures) (c .if1 .left), λ setters begins h. h))
 
 is-at-requires : tie.Need-is-at-requires Inv-loop μ-loop
 is-at-requires c κs = search needs
 
 returns-2 : tie.Need-returns-2 Inv-loop μ-loop
-returns-2 c =
-    let w = c .before .before in
-    let ((_, further), (_, reached)) = w .before .before .loop .inv in
-    ((w .whole-action .ensures .0 .0, omega (arith, w .whole-action .ensures .0 .1)), λ setters begins h. w .whole-action .ensures .1 .1 setters begins (reached setters begins h))
+returns-2 c = let ((safe, further), (_, reached)) = c .before .before .loop .inv in ((safe, further), reached)
 
 add-on-action : tie.Need-add-on-action Inv-loop μ-loop
 add-on-action c = omega (arith, inside c)
@@ -133,8 +137,7 @@ add-on-action-4 c = omega (arith, inside (c .before .before .before))
 on-action-requires : tie.Need-on-action-requires Inv-loop μ-loop
 on-action-requires c κs =
     let e = c .before .before .before .before in
-    let w = e .before .before in
-    let ((safe, _), (may, _)) = w .whole-action .ensures in
+    let ((safe, _), (may, _)) = e .before .before .loop .inv in
     (safe .bounds .few-vars, omega (arith, action-place _ _ _ _ (held e []) [] safe (is-there e) may))
 
 enum-known-step : tie.Need-enum-known-step Inv-loop μ-loop
@@ -142,27 +145,26 @@ enum-known-step c = search needs
 
 returns-3 : tie.Need-returns-3 Inv-loop μ-loop
 returns-3 c =
-    let t = c .before in
-    let e = t .before .before .before .before .before in
-    let w = e .before .before in
-    let ((_, further), (_, reached)) = w .before .before .loop .inv in (
-      (w .whole-action .ensures .0 .0, omega (arith, w .whole-action .ensures .0 .1)),
-      λ setters begins h. rw (unchanged c setters) (w .whole-action .ensures .1 .1 setters begins (reached setters begins h)),
-    )
+    let ((safe, further), (_, reached)) = c .before .before .before .before .before .before .before .before .loop .inv in
+    ((safe, further), λ setters begins h. rw (unchanged c setters) (reached setters begins h))
+
+whole-action-requires : tie.Need-whole-action-requires Inv-loop μ-loop
+whole-action-requires c κs = (taken (c .before) [] [] .0 .1, ap (λ (p : Progress). p .last) (next-is (c .before)))
 
 loop-less : tie.Need-loop-less Inv-loop μ-loop
 loop-less c =
-    let w = c .before .before .before .before .before .before .before .before .before .before in
-    let t = taken c [] [] .0 in
-    omega (arith, t .0, t .1 .inside, w .whole-action .ensures .0 .1)
+    let t = taken (c .before .before) [] [] .0 in
+    let ((safe, further), _) = c .whole-action .ensures in
+    omega (arith, t .0, safe .inside, further)
 
 loop-again : tie.Need-loop-again Inv-loop μ-loop
 loop-again c =
-    let w = c .before .before .before .before .before .before .before .before .before .before in
-    let ((safe, further), (_, whole)) = w .whole-action .ensures in
-    let ((_, before), (_, reached)) = w .before .before .loop .inv in
-    let t = taken c [] [] .0 in
-    ((t .1, omega (arith, t .0)), (ap (λ (p : Progress). p .last) (next-is c), λ setters begins h. goes-on safe (whole setters begins (reached setters begins h)) (taken c setters begins)))
+    let n = c .before .before in
+    let ((safe, before), (_, reached)) = n .before .before .before .before .before .before .before .before .before .before .loop .inv in
+    let ((whole-safe, further), (may, whole)) = c .whole-action .ensures in (
+      (whole-safe, omega (arith, taken n [] [] .0 .0)),
+      (may, λ setters begins h. whole setters begins (goes-on safe (reached setters begins h) (taken n setters begins))),
+    )
 
 pub actions-spec : {M : Type 1} → statement M
 actions-spec =
@@ -170,9 +172,9 @@ actions-spec =
     (tie.spec
     Inv-loop
     μ-loop
+    may-follow-requires
     returns
     loop-holds
-    whole-action-requires
     is-at-requires
     returns-2
     add-on-action
@@ -185,5 +187,6 @@ actions-spec =
     on-action-requires
     enum-known-step
     returns-3
+    whole-action-requires
     loop-less
     loop-again)

@@ -1,9 +1,11 @@
 -- `skimming::variables` meets its contract: each turn takes one variable.
 -- Assumes nothing.
 use mathlib.Core.Path.{_≡_, refl, ap, _∙_}
+use mathlib.Core.Bool.{true}
 use mathlib.Core.List.{List, []}
 use Prim.Native.Nat.{ℕ, _+_, _-_, _≤_}
 use native.Mathlib.Omega.{arith}
+use lib.Dec.{ltb}
 use lib.ListN.{length, getD}
 use denote.Ref.{now}
 use borrow.Author.Needs.{needs}
@@ -11,9 +13,11 @@ use borrow.Author.Tests.{not-false}
 use Rattle.records.specs.Records.{recordAt, bodyLength, bodyLengths}
 use Rattle.records.specs.declared.Found.the-variants.{There}
 use Rattle.records.proofs.Laws.{there-lies}
+use Rattle.study.specs.Reading.{mayFollow}
 use Rattle.tables.specs.Tables.{ActionTables}
 use Rattle.tables.specs.Rows.{countColumn, seen}
 use Rattle.judging.specs.Faults.{variableFault}
+use Rattle.judging.proofs.Tests.{not-left}
 use Rattle.advancing.specs.declared.Progress.{Progress}
 use Rattle.advancing.specs.declared.Step.the-variants.{On}
 use Rattle.advancing.specs.Steps.{afterVariable}
@@ -22,14 +26,14 @@ use Rattle.standing.specs.Reads.{Safe}
 use Rattle.standing.proofs.Arms.{Answers}
 use Rattle.standing.specs.Halfway.{Halfway, beside}
 use Rattle.standing.proofs.Pass.{goes-on}
-use Rattle.standing.proofs.Runs.{variable-taken}
+use Rattle.standing.proofs.Runs.{may-variable, variable-taken}
 use Rattle.skimming.proofs.variables.Statement.{statement}
 use Rattle.skimming.proofs.variables.Tie as tie
 
 abbrev Inv-loop : tie.InvT-loop
 Inv-loop file rows₀ p₀ rows p =
     (Safe file p (countColumn rows) × (p₀ .at ≤ p .at))
-    × ((p .last ≡ 1)
+    × ((mayFollow (ltb (p .tasks) (p .vars)) (p .last) 1 ≡ true)
     × ((acts : ActionTables) (begins : List ℕ) → Halfway file (beside rows₀ acts) begins p₀ → Halfway file (beside rows acts) begins p))
 
 abbrev μ-loop : tie.MeasureT-loop
@@ -40,7 +44,7 @@ abbrev Found : Type 0
 Found = tie.Else2 Inv-loop μ-loop
 
 abbrev file-of : Found → List ℕ
-file-of e = now (e .before .before .before .before .before .before .args .file)
+file-of e = now (e .before .before .before .before .before .before .before .args .file)
 
 abbrev run-of : Found → Progress
 run-of e = e .before .before .loop .p
@@ -83,16 +87,19 @@ taken c acts begins =
     let m = c .before .before in
     let t = m .before in
     let e = t .before .before .before in
-    let ((safe, _), (last, _)) = e .before .before .loop .inv in
+    let ((safe, _), (may, _)) = e .before .before .loop .inv in
     rw (next-is c, t .on-variable .ensures .1 .0, t .on-variable .ensures .1 .1, t .on-variable .ensures .1 .2)
-    (variable-taken (file-of e) (run-of e) (beside (e .before .before .loop .rows) acts) begins safe last (is-there e) _ refl
+    (variable-taken (file-of e) (run-of e) (beside (e .before .before .loop .rows) acts) begins safe may (is-there e) _ refl
     (faultless (fault-of e) (run-of e .at) (after e) (t .on-variable .ensures .0) (m .match .keys1)))
+
+may-follow-requires : tie.Need-may-follow-requires Inv-loop μ-loop
+may-follow-requires c κs = search needs
 
 returns : tie.Need-returns Inv-loop μ-loop
 returns c = search needs
 
 loop-holds : tie.Need-loop-holds Inv-loop μ-loop
-loop-holds c = ((c .before .before .before .pre, omega arith), (c .if1 .left, λ acts begins h. h))
+loop-holds c = ((c .before .before .before .before .pre, omega arith), (not-left (c .before .may-follow .ensures) (c .if1 .left), λ acts begins h. h))
 
 is-at-requires : tie.Need-is-at-requires Inv-loop μ-loop
 is-at-requires c κs = search needs
@@ -130,7 +137,7 @@ loop-again : tie.Need-loop-again Inv-loop μ-loop
 loop-again c =
     let ((safe, further), (_, reached)) = c .before .before .before .before .before .before .before .before .loop .inv in
     let t = taken c (seen [] []) [] .0 in
-    ((t .1, omega (arith, t .0)), (ap (λ (p : Progress). p .last) (next-is c), λ acts begins h. goes-on safe (reached acts begins h) (taken c acts begins)))
+    ((t .1, omega (arith, t .0)), (may-variable _ (ap (λ (p : Progress). p .last) (next-is c)), λ acts begins h. goes-on safe (reached acts begins h) (taken c acts begins)))
 
 pub variables-spec : {M : Type 1} → statement M
 variables-spec =
@@ -138,6 +145,7 @@ variables-spec =
     (tie.spec
     Inv-loop
     μ-loop
+    may-follow-requires
     returns
     loop-holds
     is-at-requires

@@ -1,35 +1,38 @@
--- `skimming::tasks` meets its contract: each turn takes one task, while a variable is left.
+-- `rostering::tasks` meets its contract: each turn takes one task, while a variable is left.
 -- Assumes nothing.
-use mathlib.Core.Path.{_≡_, refl, ap}
+use mathlib.Core.Path.{_≡_, refl, sym, ap, _∙_}
+use mathlib.Core.Bool.{true}
 use mathlib.Core.List.{List, []}
 use Prim.Native.Nat.{ℕ, _+_, _-_, _≤_, _<_}
 use native.Mathlib.Omega.{arith}
+use lib.Dec.{ltb}
 use lib.ListN.{length, getD}
 use denote.Ref.{now}
 use borrow.Author.Needs.{needs}
-use borrow.Author.Tests.{not-false}
+use borrow.Author.Tests.{not-false, lt-ltb}
 use Rattle.records.specs.Records.{recordAt, bodyLength, bodyLengths}
 use Rattle.records.specs.declared.Found.the-variants.{There}
 use Rattle.records.proofs.Laws.{there-lies}
+use Rattle.study.specs.Reading.{mayFollow}
 use Rattle.tables.specs.Tables.{ActionTables, tables}
 use Rattle.tables.specs.Rows.{Row, countColumn, seen}
 use Rattle.judging.specs.Faults.{taskFault}
 use Rattle.advancing.specs.declared.Progress.{Progress}
 use Rattle.advancing.specs.declared.Step.the-variants.{On}
 use Rattle.advancing.specs.Steps.{afterTask}
-use Rattle.advancing.proofs.Judged.{goes-on as faultless, stops, went-on}
+use Rattle.advancing.proofs.Judged.{goes-on as faultless, went-on}
 use Rattle.standing.specs.Reads.{Safe}
 use Rattle.standing.proofs.Arms.{Answers}
 use Rattle.standing.specs.Halfway.{Halfway}
 use Rattle.standing.proofs.Pass.{goes-on}
-use Rattle.standing.proofs.Runs.{task-taken}
-use Rattle.skimming.proofs.tasks.Statement.{statement}
-use Rattle.skimming.proofs.tasks.Tie as tie
+use Rattle.standing.proofs.Runs.{may-task, task-taken}
+use Rattle.rostering.proofs.tasks.Statement.{statement}
+use Rattle.rostering.proofs.tasks.Tie as tie
 
 abbrev Inv-loop : tie.InvT-loop
 Inv-loop file rows p₀ p =
     (Safe file p (countColumn rows) × (p₀ .at ≤ p .at))
-    × ((p .last ≡ 4)
+    × ((p .tasks < p .vars → mayFollow (ltb (p .tasks) (p .vars)) (p .last) 4 ≡ true)
     × ((acts : ActionTables) (starts goals begins : List ℕ)
     → Halfway file (tables (countColumn rows) acts starts goals) begins p₀
     → Halfway file (tables (countColumn rows) acts starts goals) begins p))
@@ -42,13 +45,13 @@ abbrev Found : Type 0
 Found = tie.Else3 Inv-loop μ-loop
 
 abbrev file-of : Found → List ℕ
-file-of e = now (e .before .before .before .before .before .before .before .before .args .file)
+file-of e = now (e .before .before .before .before .before .before .before .before .before .args .file)
 
 abbrev run-of : Found → Progress
 run-of e = e .before .before .before .before .loop .p
 
 abbrev rows-of : Found → List Row
-rows-of e = now (e .before .before .before .before .before .before .before .before .args .rows)
+rows-of e = now (e .before .before .before .before .before .before .before .before .before .args .rows)
 
 abbrev byte : Found → ℕ → ℕ
 byte e i = getD (file-of e) (run-of e .at + i) 0
@@ -85,16 +88,19 @@ taken c acts starts goals begins =
     let m = c .before .before in
     let t = m .before in
     let e = t .before .before .before .before in
-    let ((safe, _), (last, _)) = e .before .before .before .before .loop .inv in
+    let ((safe, _), (may, _)) = e .before .before .before .before .loop .inv in
     rw (next-is c)
-    (task-taken (file-of e) (run-of e) (tables (countColumn (rows-of e)) acts starts goals) begins safe last (is-left e) (is-there e) _ _ _ refl refl refl (fault-of e) refl
+    (task-taken (file-of e) (run-of e) (tables (countColumn (rows-of e)) acts starts goals) begins safe (may (is-left e)) (is-there e) _ _ _ refl refl refl (fault-of e) refl
     (faultless (fault-of e) (run-of e .at) (after e) (t .on-task .ensures) (m .match .keys1)))
+
+may-follow-requires : tie.Need-may-follow-requires Inv-loop μ-loop
+may-follow-requires c κs = search needs
 
 returns : tie.Need-returns Inv-loop μ-loop
 returns c = search needs
 
 loop-holds : tie.Need-loop-holds Inv-loop μ-loop
-loop-holds c = ((c .before .before .before .pre, omega arith), (c .if1 .left, λ acts starts goals begins h. h))
+loop-holds c = ((c .before .before .before .before .pre, omega arith), (λ left. sym (c .before .may-follow .ensures) ∙ not-false _ (c .if1 .left), λ acts starts goals begins h. h))
 
 returns-2 : tie.Need-returns-2 Inv-loop μ-loop
 returns-2 c = let ((safe, further), (_, reached)) = c .before .before .loop .inv in ((safe, further), reached)
@@ -148,7 +154,7 @@ loop-again c =
     let ((safe, further), (_, reached)) = c .before .before .before .before .before .before .before .before .before .before .before .loop .inv in
     let t = taken c (seen [] []) [] [] [] .0 in (
       (t .1, omega (arith, t .0)),
-      (ap (λ (p : Progress). p .last) (next-is c), λ acts starts goals begins h. goes-on safe (reached acts starts goals begins h) (taken c acts starts goals begins)),
+      (λ left. may-task (ap (λ (p : Progress). p .last) (next-is c)) (lt-ltb _ _ left), λ acts starts goals begins h. goes-on safe (reached acts starts goals begins h) (taken c acts starts goals begins)),
     )
 
 pub tasks-spec : {M : Type 1} → statement M
@@ -157,6 +163,7 @@ tasks-spec =
     (tie.spec
     Inv-loop
     μ-loop
+    may-follow-requires
     returns
     loop-holds
     returns-2
