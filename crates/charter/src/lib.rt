@@ -251,5 +251,5 @@ pub fn chart(file: &[u8], crew: u64, actions: &[u8], pairs: &[u8]) -> Answer
     if FEW < count {
         return chart_many(file, seed, n, count, &acts, &vars, &setters, actions, pairs);
     }
-    vetting::chart_few(file, n, count, &acts, &vars, &setters, actions, pairs)
+    vetting::chart_few(file, n, count, &acts, &vars, &mut setters, actions, pairs)
 }

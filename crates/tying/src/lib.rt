@@ -13,9 +13,9 @@ use linking::Closed;
 const FEW: usize = 64;
 
 // Puts each number of a word in its own place.
-pub fn number_all(room: &mut [u8; 512])
-    requires { ⌜ length (now room) ≡ 512 ⌝ }
-    ensures { λ _. ⌜ (length (now (room .exit)) ≡ 512) × InPlace (now (room .exit)) ⌝ }
+pub fn number_all(room: &mut [u8])
+    requires { ⌜ 64 ≤ length (now room) ⌝ }
+    ensures { λ _. ⌜ (length (now (room .exit)) ≡ length (now (room .entry))) × InPlace (now (room .exit)) ⌝ }
 {
     let mut i = 0;
     while i < FEW {
@@ -51,18 +51,17 @@ fn gather_all(total: usize, room: &[u8; 512], words: &mut [u64; 128])
     }
 }
 
-// Numbers that are tied, all of them members. The words behind theirs are used up.
-pub fn close(members: u64, total: usize, words: &mut [u64; 128]) -> Closed
+// Numbers that are tied, all of them members. The words behind theirs are used up, and so is the room.
+pub fn close(members: u64, total: usize, words: &mut [u64; 128], room: &mut [u8; 512]) -> Closed
     requires { ⌜ (total ≤ 256) × (length (now words) ≡ 128) × Counted (InWord members) total × NoneHung (hungIn (now words))
-        × Among members (now words) × Low members ⌝ }
+        × Among members (now words) × Low members × (length (now room) ≡ 512) ⌝ }
     ensures { λ r. ⌜ ClosesTo (Tied (now (words .entry))) (Tied (now (words .exit))) r ⌝ }
 {
-    let mut room = [0u8; 512];
-    number_all(&mut room);
-    let taken = hanging::take(members, total, words, &mut room);
+    number_all(room);
+    let taken = hanging::take(members, total, words, room);
     if taken < total {
         return Closed::Circle;
     }
-    gather_all(total, &room, words);
+    gather_all(total, room, words);
     Closed::Chains
 }

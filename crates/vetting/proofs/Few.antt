@@ -31,10 +31,10 @@ use Rattle.comparing.specs.Comparing.{ListedIn, Untied, Wanted}
 
 -- ---- each action's rank is its own number
 
-pub room-rising : (room : List ℕ) → InPlace room → length room ≡ 512 → (k : ℕ) → k ≤ 64 → take k room ≡ rising k
-room-rising room places e zero h = refl
-room-rising room places e (suc k) h =
-    take-suc room k 0 (omega arith) ∙ rw (room-rising room places e k (omega arith), places k (omega arith))
+pub ranks-rising : (ranks : List ℕ) → InPlace ranks → length ranks ≡ 64 → (k : ℕ) → k ≤ 64 → take k ranks ≡ rising k
+ranks-rising ranks places e zero h = refl
+ranks-rising ranks places e (suc k) h =
+    take-suc ranks k 0 (omega arith) ∙ rw (ranks-rising ranks places e k (omega arith), places k (omega arith))
 
 pub room-turned : (room : List ℕ) → InPlace room → (k : ℕ) → k ≤ 64 → Turned (rising k) room
 room-turned room places k few = record { inverse = λ i h. own i (omega (arith, length-rising k)) }

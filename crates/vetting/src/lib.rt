@@ -58,8 +58,15 @@ pub fn told(lack: Lack, actions: usize, pairs: usize) -> Answer
 }
 
 // The list is in order, and the members are its actions: 26, 27, 28, or 0.
-fn vet_ties(total: usize, members: u64, words: &[u64; 128], actions: &[u8], pairs: &[u8]) -> Answer
-    requires { ⌜ (total ≤ 256) × Counted (InWord members) total × Low members × ListedIn (now actions) members ⌝ }
+fn vet_ties(
+    total: usize,
+    members: u64,
+    words: &[u64; 128],
+    actions: &[u8],
+    pairs: &[u8],
+    room: &mut [u8; 512],
+) -> Answer
+    requires { ⌜ (total ≤ 256) × Counted (InWord members) total × Low members × ListedIn (now actions) members × (length (now room) ≡ 512) ⌝ }
     ensures { λ r. ⌜ ((t : Study)
         → ((i j : ℕ) → Wanted members (now (words .entry)) i j ↔ Direct t i j)
         → Listed t (chartOf (now (actions .entry)) (now (pairs .entry)))
@@ -71,7 +78,7 @@ fn vet_ties(total: usize, members: u64, words: &[u64; 128], actions: &[u8], pair
     if k < many {
         return numbers(26, k, 0);
     }
-    let closed = tying::close(members, total, &mut ties);
+    let closed = tying::close(members, total, &mut ties, room);
     let Closed::Chains = closed else {
         return numbers(27, 0, 0);
     };
@@ -88,8 +95,9 @@ fn vet_words(
     words: &[u64; 128],
     actions: &[u8],
     pairs: &[u8],
+    room: &mut [u8; 512],
 ) -> Answer
-    requires { ⌜ (count ≤ 64) × ((t : Study) × InWords t count total members (outColumn (now acts)) (now words)) ⌝ }
+    requires { ⌜ (count ≤ 64) × ((t : Study) × InWords t count total members (outColumn (now acts)) (now words)) × (length (now room) ≡ 512) ⌝ }
     ensures { λ r. ⌜ ((t : Study)
         → InWords t count total members (outColumn (now (acts .entry))) (now (words .entry))
         → Charts t (chartOf (now (actions .entry)) (now (pairs .entry))) r) ⌝ }
@@ -109,32 +117,33 @@ fn vet_words(
     if low < NONE {
         return numbers(25, low as usize, 0);
     }
-    vet_ties(total, members, words, actions, pairs)
+    vet_ties(total, members, words, actions, pairs, room)
 }
 
-// Every variable has a walk: 11, 12, or in words. Each action's rank is its own number, so that the room is both the list of
-// ranks and that of names.
+// Every variable has a walk: 11, 12, or in words. Each action's rank is its own number, and so is its name. The setters are
+// not needed once the actions are ordered: their table is used up as the room.
 fn order_words(
     file: &[u8],
     count: usize,
     total: usize,
     acts: &[[u8; 6]; 256],
     vars: &[[u8; 3]; 32],
-    setters: &[u8; 512],
+    setters: &mut [u8; 512],
     steps: &[u16; 512],
     words: &mut [u64; 128],
 ) -> Readied
-    requires { ⌜ (length (now words) ≡ 128) × AllZero (now words) × (count ≤ 64)
+    requires { ⌜ (length (now words) ≡ 128) × AllZero (now words) × (count ≤ 64) × (length (now setters) ≡ 512)
         × ((t : Study) × (n : ℕ) × WalkingIn (now file) (rising count) n total (now acts) (now vars) (now setters) (now steps) t) ⌝ }
+    ensures { λ r. ⌜ length (now (setters .exit)) ≡ 512 ⌝ }
     ensures { λ r. ⌜ ((t : Study) (n : ℕ)
         → WalkingIn (now (file .entry)) (rising count) n total (now (acts .entry)) (now (vars .entry)) (now (setters .entry)) (now (steps .entry)) t
         → Readies t count (outColumn (now (acts .entry))) (now (words .exit)) r) ⌝ }
 {
-    let mut room = [0u8; 512];
-    tying::number_all(&mut room);
+    let mut ranks = [0u8; 64];
+    tying::number_all(&mut ranks);
     let found = ordering::order_all(
         file,
-        &room[..count],
+        &ranks[..count],
         count,
         acts,
         vars,
@@ -145,7 +154,8 @@ fn order_words(
     let Found::Members(members) = found else {
         return Readied::Refused(handing::unordered(found));
     };
-    let taken = hanging::take(members, total, words, &mut room);
+    tying::number_all(setters);
+    let taken = hanging::take(members, total, words, setters);
     if taken < total {
         return Readied::Refused(numbers(12, taken, 0));
     }
@@ -159,11 +169,12 @@ fn ready(
     count: usize,
     acts: &[[u8; 6]; 256],
     vars: &[[u8; 3]; 32],
-    setters: &[u8; 512],
+    setters: &mut [u8; 512],
     words: &mut [u64; 128],
 ) -> Readied
-    requires { ⌜ (length (now words) ≡ 128) × AllZero (now words) × (count ≤ 64)
+    requires { ⌜ (length (now words) ≡ 128) × AllZero (now words) × (count ≤ 64) × (length (now setters) ≡ 512)
         × ((t : Study) × (x : ℕ) × KnownIn (now file) n count x (now acts) (now vars) (now setters) t) ⌝ }
+    ensures { λ r. ⌜ length (now (setters .exit)) ≡ 512 ⌝ }
     ensures { λ r. ⌜ ((t : Study) (x : ℕ)
         → KnownIn (now (file .entry)) n count x (now (acts .entry)) (now (vars .entry)) (now (setters .entry)) t
         → Readies t count (outColumn (now (acts .entry))) (now (words .exit)) r) ⌝ }
@@ -176,18 +187,19 @@ fn ready(
     order_words(file, count, total, acts, vars, setters, &steps, words)
 }
 
-// What was loaded has at most 64 actions.
+// What was loaded has at most 64 actions. The table of setters is used up.
 pub fn chart_few(
     file: &[u8],
     n: usize,
     count: usize,
     acts: &[[u8; 6]; 256],
     vars: &[[u8; 3]; 32],
-    setters: &[u8; 512],
+    setters: &mut [u8; 512],
     actions: &[u8],
     pairs: &[u8],
 ) -> Answer
-    requires { ⌜ (count ≤ 64) × ((t : Study) × (x : ℕ) × KnownIn (now file) n count x (now acts) (now vars) (now setters) t) ⌝ }
+    requires { ⌜ (count ≤ 64) × (length (now setters) ≡ 512)
+        × ((t : Study) × (x : ℕ) × KnownIn (now file) n count x (now acts) (now vars) (now setters) t) ⌝ }
     ensures { λ r. ⌜ ((t : Study) (x : ℕ)
         → KnownIn (now (file .entry)) n count x (now (acts .entry)) (now (vars .entry)) (now (setters .entry)) t
         → Charts t (chartOf (now (actions .entry)) (now (pairs .entry))) r) ⌝ }
@@ -197,7 +209,7 @@ pub fn chart_few(
     match readied {
         Readied::Refused(answer) => answer,
         Readied::Words { members, total } => {
-            vet_words(count, total, acts, members, &words, actions, pairs)
+            vet_words(count, total, acts, members, &words, actions, pairs, setters)
         }
     }
 }

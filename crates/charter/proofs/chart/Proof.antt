@@ -86,7 +86,7 @@ returns-2 c =
     rw (said f) (c .chart-many .ensures (study f) (known f))
 
 chart-few-requires : tie.Need-chart-few-requires
-chart-few-requires c κs = let f = c .before .before .before .before .before in (omega arith, (study f, seed-of f, known f))
+chart-few-requires c κs = let f = c .before .before .before .before .before in (omega arith, held f .2 .sized .setters, (study f, seed-of f, known f))
 
 returns-3 : tie.Need-returns-3
 returns-3 c =

@@ -1,6 +1,6 @@
 -- `tying::close` meets its contract: fewer than all are taken, and there is a circle; or all are sorted, and gather one after another.
 -- Assumes nothing.
-use mathlib.Core.Path.{_≡_, sym}
+use mathlib.Core.Path.{_≡_, sym, _∙_}
 use mathlib.Core.List.{List}
 use Prim.Native.Nat.{ℕ, _≤_}
 use native.Mathlib.Omega.{arith}
@@ -15,13 +15,13 @@ use Rattle.tying.proofs.close.Statement.{statement}
 use Rattle.tying.proofs.close.Tie as tie
 
 number-all-requires : tie.Need-number-all-requires
-number-all-requires c κs = search needs
+number-all-requires c κs = omega (arith, c .before .pre .6)
 
 take-requires : tie.Need-take-requires
 take-requires c κs =
     let n = c .before .before in
     let s = n .before .before in
-    (s .pre .0, s .pre .1, n .number-all .ensures .0, s .pre .2, s .pre .3)
+    (s .pre .0, s .pre .1, n .number-all .ensures .0 ∙ s .pre .6, s .pre .2, s .pre .3)
 
 -- what is known once members are taken
 module _ (k : tie.After-take) where

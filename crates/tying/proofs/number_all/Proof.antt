@@ -22,19 +22,19 @@ one-more room n h placed j l = go (ℕ-discrete j n)
     go (no d) = getD-set-other room n j n 0 d ∙ placed j (omega arith)
 
 abbrev Inv-loop : tie.InvT-loop
-Inv-loop room₀ i₀ room i = (length room ≡ 512) × (i ≤ 64) × Placed room i
+Inv-loop room₀ i₀ room i = (length room ≡ length room₀) × (i ≤ 64) × Placed room i
 
 abbrev μ-loop : tie.MeasureT-loop
 μ-loop room₀ i₀ room i = 64 - i
 
 loop-holds : tie.Need-loop-holds Inv-loop μ-loop
-loop-holds c = (c .pre, omega arith, λ j h. absurd (omega arith))
+loop-holds c = (refl, omega arith, λ j h. absurd (omega arith))
 
 cast-room : tie.Need-cast-room Inv-loop μ-loop
 cast-room c = search needs
 
-element-write-room : tie.Need-element-write-room Inv-loop μ-loop
-element-write-room c = search needs
+slice-write-room : tie.Need-slice-write-room Inv-loop μ-loop
+slice-write-room c = omega (arith, c .before .loop .inv .0, c .before .before .pre)
 
 add-i : tie.Need-add-i Inv-loop μ-loop
 add-i c = search needs
@@ -46,7 +46,10 @@ loop-again : tie.Need-loop-again Inv-loop μ-loop
 loop-again c =
     let l = c .before in
     let (long, few, placed) = l .loop .inv in
-    (length-set (l .loop .room) (l .loop .i) (l .loop .i) ∙ long, omega arith, one-more (l .loop .room) (l .loop .i) (omega arith) placed)
+    (length-set (l .loop .room) (l .loop .i) (l .loop .i) ∙ long, omega arith, one-more (l .loop .room) (l .loop .i) (omega (arith, l .before .pre)) placed)
+
+same-length : tie.Need-same-length Inv-loop μ-loop
+same-length c = c .before .loop .inv .0
 
 returns : tie.Need-returns Inv-loop μ-loop
 returns c =
@@ -61,8 +64,9 @@ number-all-spec =
     μ-loop
     loop-holds
     cast-room
-    element-write-room
+    slice-write-room
     add-i
     loop-less
     loop-again
+    same-length
     returns)

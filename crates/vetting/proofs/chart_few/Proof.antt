@@ -16,7 +16,7 @@ use Rattle.vetting.proofs.chart_few.Tie as tie
 -- what is known once the study is made ready
 module _ (r : tie.After-ready) where
   abbrev start-of : tie.Start
-  start-of = r .before .before .before .before .before
+  start-of = r .before .before .before .before .before .before
 
   readied-of :
       {l : Readied} → r .ready .result ≡ l → (t : Study) (x : ℕ)
@@ -24,12 +24,12 @@ module _ (r : tie.After-ready) where
       → Readies t (start-of .args .count) (outColumn (now (start-of .args .acts))) (r .ready .last .1 .1 .1 .1 .1 .1 .0) l
   readied-of e t x known =
       subst (λ (l : Readied). Readies t (start-of .args .count) (outColumn (now (start-of .args .acts))) (r .ready .last .1 .1 .1 .1 .1 .1 .0) l) e
-      (r .ready .ensures t x known)
+      (r .ready .ensures .1 t x known)
 
 ready-requires : tie.Need-ready-requires
 ready-requires c κs =
-    let s = c .before .before .before .before in
-    (refl, all-zeros 128, s .pre .0, s .pre .1)
+    let s = c .before .before .before .before .before in
+    (refl, all-zeros 128, s .pre .0, s .pre .1, s .pre .2)
 
 enum-known-readied : tie.Need-enum-known-readied
 enum-known-readied c = search needs
@@ -39,11 +39,11 @@ enum-known-readied-2 c = search needs
 
 vet-words-requires : tie.Need-vet-words-requires
 vet-words-requires c κs =
-    let m = c .before .before in
+    let m = c .before .before .before in
     let r = m .before .before in
     let s = start-of r in
-    let (t, x, known) = s .pre .1 in
-    (s .pre .0, (t, readied-of r (m .readied2 .given .1) t x known))
+    let (t, x, known) = s .pre .2 in
+    (s .pre .0, (t, readied-of r (m .readied2 .given .1) t x known), r .ready .ensures .0)
 
 returns : tie.Need-returns
 returns c t x known =
@@ -52,7 +52,7 @@ returns c t x known =
 
 returns-2 : tie.Need-returns-2
 returns-2 c t x known =
-    let m = c .before .before .before in
+    let m = c .before .before .before .before in
     let r = m .before .before in
     c .vet-words .ensures t (readied-of r (m .readied2 .given .1) t x known)
 

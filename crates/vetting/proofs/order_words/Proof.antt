@@ -9,6 +9,8 @@ use denote.Ref.{now}
 use Rattle.ranks.specs.Ranks.{rising, Turned}
 use Rattle.ranks.proofs.Laws.{length-rising, getD-rising}
 use Rattle.study.specs.Study.{Study}
+use Rattle.orders.specs.Orders.{Counted}
+use Rattle.hanging.specs.Hanging.{InWord}
 use Rattle.walks.specs.Walks.{Met}
 use Rattle.tables.specs.Rows.{outColumn}
 use Rattle.ordering.specs.Ordering.{Ordered, OrdersAll}
@@ -21,31 +23,28 @@ use Rattle.stages.proofs.Stages.{rowed-walks, all-few, walking-ranks, walking-o
 use Rattle.stages.proofs.Few.{walking-orderable, members-counted, none-hung, taken-greedily}
 use Rattle.charts.specs.Answers.{off-walk}
 use Rattle.vetting.specs.Words.{InWords}
-use Rattle.vetting.proofs.Few.{room-rising, room-turned, word-walks, word-low, word-directs}
+use Rattle.vetting.proofs.Few.{ranks-rising, room-turned, word-walks, word-low, word-directs}
 use Rattle.vetting.proofs.Planned.{refused-charts, plan-in-front}
 use borrow.Author.Needs.{needs}
 use Rattle.vetting.proofs.order_words.Statement.{statement}
 use Rattle.vetting.proofs.order_words.Tie as tie
 
--- what is known once each has its own number
+-- what is known once each has its own number as rank
 module _ (n : tie.After-number-all) where
   abbrev start-of : tie.Start
   start-of = n .before .before .before
 
-  abbrev room-of : List ℕ
-  room-of = n .number-all .last .0
+  abbrev ranks-of : List ℕ
+  ranks-of = n .number-all .last .0
 
-  front-of : take (start-of .args .count) room-of ≡ rising (start-of .args .count)
-  front-of = room-rising room-of (n .number-all .ensures .1) (n .number-all .ensures .0) (start-of .args .count) (start-of .pre .2)
+  front-of : take (start-of .args .count) ranks-of ≡ rising (start-of .args .count)
+  front-of = ranks-rising ranks-of (n .number-all .ensures .1) (n .number-all .ensures .0) (start-of .args .count) (start-of .pre .2)
 
-  own-of : (i : ℕ) → i < start-of .args .count → getD (take (start-of .args .count) room-of) i 0 ≡ i
+  own-of : (i : ℕ) → i < start-of .args .count → getD (take (start-of .args .count) ranks-of) i 0 ≡ i
   own-of i h = rw front-of (getD-rising (start-of .args .count) i h)
 
   few-of : length (rising (start-of .args .count)) ≤ 64
   few-of = omega (arith, length-rising (start-of .args .count), start-of .pre .2)
-
-  turned-of : Turned (rising (start-of .args .count)) room-of
-  turned-of = room-turned room-of (n .number-all .ensures .1) (start-of .args .count) (start-of .pre .2)
 
   -- the tables hold a study whose walks are entered
   abbrev Walking-of : Study → ℕ → Type 0
@@ -56,7 +55,7 @@ module _ (n : tie.After-number-all) where
 -- .. and the actions are ordered
 module _ (o : tie.After-order-all) where
   abbrev number-of : tie.After-number-all
-  number-of = o .before .before .before
+  number-of = o .before .before .before .before .before
 
   abbrev ordered-words : List ℕ
   ordered-words = o .order-all .last .1 .1 .1 .1 .1 .1 .1 .0
@@ -79,16 +78,19 @@ module _ (f : tie.After-found) where
       subst (λ (l : Found). OrdersAll t (rising (start-of (number-of order-of) .args .count)) (ordered-words order-of) l) (f .found .given .1)
       (orders-of order-of t v walking)
 
--- .. and taken
-module _ (k : tie.After-take) where
+-- .. and each has its own number as name
+module _ (m : tie.After-number-all2) where
   abbrev found-of : tie.After-found
-  found-of = k .before .before .before .before
+  found-of = m .before .before .before
 
   abbrev numbered-of : tie.After-number-all
   numbered-of = number-of (order-of found-of)
 
   abbrev args-of : tie.Start
   args-of = start-of numbered-of
+
+  turned-of : Turned (rising (args-of .args .count)) (m .number-all2 .last .0)
+  turned-of = room-turned (m .number-all2 .last .0) (m .number-all2 .ensures .1) (args-of .args .count) (args-of .pre .2)
 
   module _ (t : Study) (v : ℕ) (walking : Walking-of numbered-of t v) where
     ordered : Ordered t (rising (args-of .args .count)) (found-of .found .given .0 .0) (ordered-words (order-of found-of))
@@ -97,43 +99,60 @@ module _ (k : tie.After-take) where
     orderly : Orderly (args-of .args .total) t
     orderly = walking-orderly walking (ordered-of found-of t v walking .0)
 
-    taken-of : Taken t (rising (args-of .args .count)) (args-of .args .total) (k .take .result) (k .take .last .1 .1 .1 .0)
+    counted : Counted (InWord (found-of .found .given .0 .0)) (args-of .args .total)
+    counted = members-counted orderly (walking-ranks walking) (few-of numbered-of) ordered turned-of
+
+-- .. and taken
+module _ (k : tie.After-take) where
+  abbrev named-of : tie.After-number-all2
+  named-of = k .before .before .before
+
+  abbrev given-of : tie.Start
+  given-of = args-of named-of
+
+  module _ (t : Study) (v : ℕ) (walking : Walking-of (numbered-of named-of) t v) where
+    taken-of : Taken t (rising (given-of .args .count)) (given-of .args .total) (k .take .result) (k .take .last .1 .1 .1 .0)
     taken-of =
-        orderly-taken orderly (walking-ranks walking) _ _
-        (taken-greedily orderly (walking-ranks walking) (few-of numbered-of) ordered (turned-of numbered-of) (k .take .ensures .1 .0))
+        orderly-taken (orderly named-of t v walking) (walking-ranks walking) _ _
+        (taken-greedily (orderly named-of t v walking) (walking-ranks walking) (few-of (numbered-of named-of)) (ordered named-of t v walking) (turned-of named-of)
+        (k .take .ensures .1 .0))
 
     words-of :
-        args-of .args .total ≤ k .take .result
-        → InWords t (args-of .args .count) (args-of .args .total) (found-of .found .given .0 .0) (outColumn (now (args-of .args .acts))) (k .take .last .1 .1 .0)
+        given-of .args .total ≤ k .take .result
+        → InWords t (given-of .args .count) (given-of .args .total) (found-of named-of .found .given .0 .0) (outColumn (now (given-of .args .acts))) (k .take .last .1 .1 .0)
     words-of h =
-        let held = rw (length-rising (args-of .args .count)) at (walking .actions) in
+        let held = rw (length-rising (given-of .args .count)) at (walking .actions) in
         let laid = fits taken-of (k .take .ensures .0 .1) (k .take .ensures .0 .0) h (replicate 256 0) (all-few walking) in
+        let told = ordered named-of t v walking in
         record {
           plannable = (_, plan-in-front (walking .lawful) (walking .ranked) (replicate 256 0) refl laid refl .straight);
           actions = held .count;
           force = λ i l. held .action i l .force;
           few = all-few walking;
-          counted = members-counted orderly (walking-ranks walking) (few-of numbered-of) ordered (turned-of numbered-of);
-          low = word-low (args-of .pre .2) (held .count) ordered;
-          walks = word-walks (args-of .pre .2) (held .count) ordered;
-          directs = word-directs (args-of .pre .2) (held .count) ordered (k .take .last .1 .1 .0) (k .take .ensures .1 .1 .1);
+          counted = counted named-of t v walking;
+          low = word-low (given-of .pre .2) (held .count) told;
+          walks = word-walks (given-of .pre .2) (held .count) told;
+          directs = word-directs (given-of .pre .2) (held .count) told (k .take .last .1 .1 .0) (k .take .ensures .1 .1 .1);
         }
+
+slice-aggregate-number-all : tie.Need-slice-aggregate-number-all
+slice-aggregate-number-all c = refl
 
 number-all-requires : tie.Need-number-all-requires
 number-all-requires c κs = search needs
 
-array-share-prefix-room : tie.Need-array-share-prefix-room
-array-share-prefix-room c = search needs
+array-share-prefix-ranks : tie.Need-array-share-prefix-ranks
+array-share-prefix-ranks c = search needs
 
 slice-aggregate-order-all : tie.Need-slice-aggregate-order-all
-slice-aggregate-order-all c = sym (ap length (front-of (c .before)) ∙ length-rising _)
+slice-aggregate-order-all c = sym (ap length (front-of (c .before .before)) ∙ length-rising _)
 
 order-all-requires : tie.Need-order-all-requires
 order-all-requires c κs =
-    let n = c .before .before in
+    let n = c .before .before .before .before in
     let s = start-of n in
     let count = s .args .count in
-    let (t, v, walking) = s .pre .3 in (
+    let (t, v, walking) = s .pre .4 in (
       s .pre .0,
       s .pre .2,
       ap length (front-of n) ∙ length-rising count,
@@ -151,54 +170,61 @@ unordered-requires : tie.Need-unordered-requires
 unordered-requires c κs = search needs
 
 returns : tie.Need-returns
-returns c t n walking chart =
+returns c =
     let e = c .before .enum-told .given .1 in
-    let o = c .before .before .before in
-    let off = subst (λ (l : Found). OrdersAll t (rising (start-of (number-of o) .args .count)) (ordered-words o) l) e (orders-of o t n walking) in
-    rw (c .unordered .ensures ∙ ap notOrdered e) (off-walk (rowed-walks (walking .variables) (walking .rowed)) off)
+    let o = c .before .before .before in (
+      start-of (number-of o) .pre .3,
+      λ t n walking chart.
+          let off = subst (λ (l : Found). OrdersAll t (rising (start-of (number-of o) .args .count)) (ordered-words o) l) e (orders-of o t n walking) in
+          rw (c .unordered .ensures ∙ ap notOrdered e) (off-walk (rowed-walks (walking .variables) (walking .rowed)) off),
+    )
+
+number-all-requires-2 : tie.Need-number-all-requires-2
+number-all-requires-2 c κs = omega (arith, start-of (number-of (order-of (c .before .before))) .pre .3)
 
 take-requires : tie.Need-take-requires
 take-requires c κs =
-    let f = c .before .before .before in
-    let o = f .before .before in
-    let n = o .before .before .before in
-    let s = start-of n in
-    let (t, v, walking) = s .pre .3 in
-    let (met, ordered) = ordered-of f t v walking in
-    let orderly = walking-orderly walking met in (
+    let m = c .before .before in
+    let s = args-of m in
+    let (t, v, walking) = s .pre .4 in (
       all-few walking,
-      o .order-all .ensures .0,
-      n .number-all .ensures .0,
-      members-counted orderly (walking-ranks walking) (few-of n) ordered (turned-of n),
-      none-hung orderly (walking-ranks walking) (few-of n) ordered (turned-of n),
+      order-of (found-of m) .order-all .ensures .0,
+      m .number-all2 .ensures .0 ∙ s .pre .3,
+      counted m t v walking,
+      none-hung (orderly m t v walking) (walking-ranks walking) (few-of (numbered-of m)) (ordered m t v walking) (turned-of m),
     )
 
 numbers-requires : tie.Need-numbers-requires
 numbers-requires c κs = search needs
 
 returns-2 : tie.Need-returns-2
-returns-2 c t n walking chart =
-    let k = c .before .before in
-    rw (c .numbers .ensures)
-    (refused-charts (walking .lawful) (walking .ranked) (replicate 256 0) refl
-    (fewer-is-ring (taken-of k t n walking) (k .take .ensures .0 .1) (k .take .ensures .0 .0) (replicate 256 0) (omega arith)) chart
-    (λ e. omega (arith, e)))
+returns-2 c =
+    let k = c .before .before in (
+      k .take .ensures .0 .1,
+      λ t n walking chart.
+          rw (c .numbers .ensures)
+          (refused-charts (walking .lawful) (walking .ranked) (replicate 256 0) refl
+          (fewer-is-ring (taken-of k t n walking) (k .take .ensures .0 .1) (k .take .ensures .0 .0) (replicate 256 0) (omega arith)) chart
+          (λ e. omega (arith, e))),
+    )
 
 returns-3 : tie.Need-returns-3
-returns-3 c t n walking = words-of (c .before) t n walking (omega arith)
+returns-3 c = (c .before .take .ensures .0 .1, λ t n walking. words-of (c .before) t n walking (omega arith))
 
 pub order-words-spec : {M : Type 1} → statement M
 order-words-spec =
     tie.close
     (tie.spec
+    slice-aggregate-number-all
     number-all-requires
-    array-share-prefix-room
+    array-share-prefix-ranks
     slice-aggregate-order-all
     order-all-requires
     enum-known-found
     enum-told
     unordered-requires
     returns
+    number-all-requires-2
     take-requires
     numbers-requires
     returns-2

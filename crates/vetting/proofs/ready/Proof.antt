@@ -11,7 +11,7 @@ use Rattle.vetting.proofs.ready.Tie as tie
 
 walk-all-requires : tie.Need-walk-all-requires
 walk-all-requires c κs =
-    let (t, x, known) = c .before .before .pre .3 in
+    let (t, x, known) = c .before .before .before .pre .4 in
     let given = given-rising known in
     (refl, (t, given-moves given, known .variables, given-starts given, given-goals given))
 
@@ -25,29 +25,35 @@ unwalked-requires : tie.Need-unwalked-requires
 unwalked-requires c κs = search needs
 
 returns : tie.Need-returns
-returns c t x known chart =
+returns c =
     let e = c .before .enum-told .given .1 in
-    rw (c .unwalked .ensures ∙ ap notWalked e)
-    (no-walk (rw e at (given-traced (given-rising known) (c .before .before .before .walk-all .ensures .1 t))))
+    let a = c .before .before .before in (
+      a .before .before .before .before .pre .3,
+      λ t x known chart.
+          rw (c .unwalked .ensures ∙ ap notWalked e) (no-walk (rw e at (given-traced (given-rising known) (a .walk-all .ensures .1 t)))),
+    )
 
 order-words-requires : tie.Need-order-words-requires
 order-words-requires c κs =
-    let m = c .before .before .before in
-    let a = m .before .before in
-    let s = a .before .before .before in
-    let (t, x, known) = s .pre .3 in
-    let given = given-rising known in
-    let (rowed, (list, (members, counted))) = rw (m .walked .given .1) at (given-traced given (a .walk-all .ensures .1 t)) in
-    (s .pre .0, s .pre .1, s .pre .2, (t, s .args .n, given-walking given _ _ rowed list members counted))
-
-returns-2 : tie.Need-returns-2
-returns-2 c t x known =
     let m = c .before .before .before .before in
     let a = m .before .before in
-    let s = a .before .before .before in
+    let s = a .before .before .before .before in
+    let (t, x, known) = s .pre .4 in
     let given = given-rising known in
     let (rowed, (list, (members, counted))) = rw (m .walked .given .1) at (given-traced given (a .walk-all .ensures .1 t)) in
-    c .order-words .ensures t (s .args .n) (given-walking given _ _ rowed list members counted)
+    (s .pre .0, s .pre .1, s .pre .2, s .pre .3, (t, s .args .n, given-walking given _ _ rowed list members counted))
+
+returns-2 : tie.Need-returns-2
+returns-2 c =
+    let m = c .before .before .before .before .before in
+    let a = m .before .before in
+    let s = a .before .before .before .before in (
+      c .order-words .ensures .0,
+      λ t x known.
+          let given = given-rising known in
+          let (rowed, (list, (members, counted))) = rw (m .walked .given .1) at (given-traced given (a .walk-all .ensures .1 t)) in
+          c .order-words .ensures .1 t (s .args .n) (given-walking given _ _ rowed list members counted),
+    )
 
 pub ready-spec : {M : Type 1} → statement M
 ready-spec =

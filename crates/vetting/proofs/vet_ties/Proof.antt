@@ -59,9 +59,9 @@ returns c t directs listed =
 
 close-requires : tie.Need-close-requires
 close-requires c κs =
-    let l = c .before .before in
+    let l = c .before .before .before in
     let p = start-of l .pre in
-    (p .0, l .tie-all .ensures .0 .0, p .1, still-none-hung (ties-of l) (l .tie-all .ensures .0 .1), among-of l (omega arith), p .2)
+    (p .0, l .tie-all .ensures .0 .0, p .1, still-none-hung (ties-of l) (l .tie-all .ensures .0 .1), among-of l (omega arith), p .2, p .4)
 
 enum-told : tie.Need-enum-told
 enum-told c = search needs
@@ -75,12 +75,12 @@ numbers-requires-2 c κs = search needs
 returns-2 : tie.Need-returns-2
 returns-2 c t directs listed =
     let d = c .before .before .before in
-    let l = d .before .before .before in
+    let l = d .before .before .before .before in
     rw (c .numbers2 .ensures)
     (ring-charts (chart-of l) (links-of l) (all-of l (omega arith)) (d .close .ensures) (c .before .enum-told2 .given .1) listed)
 
 lowest-requires : tie.Need-lowest-requires
-lowest-requires c κs = start-of (c .before .before .before .before .before .before) .pre .2
+lowest-requires c κs = start-of (c .before .before .before .before .before .before .before) .pre .2
 
 told-requires : tie.Need-told-requires
 told-requires c κs = search needs
@@ -89,7 +89,7 @@ returns-3 : tie.Need-returns-3
 returns-3 c t directs listed =
     let w = c .before in
     let d = w .before .before .before .before in
-    let l = d .before .before .before in
+    let l = d .before .before .before .before in
     rw (c .told .ensures, ← many-of l)
     (closed-charts (chart-of l) (links-of l) (all-of l (omega arith)) listed (d .close .ensures) (w .before .before .enum-told .given .1)
     (lacks-same directs (w .lowest .ensures)))

@@ -93,15 +93,15 @@ returns-4 c t words =
 
 vet-ties-requires : tie.Need-vet-ties-requires
 vet-ties-requires c κs =
-    let a = c .before in
+    let a = c .before .before in
     let s = start-of (a .before .before .before .before) in
     let (t, words) = s .pre .1 in
     let amiss = a .lowest-amiss .ensures t (words .walks) in
-    (words .few, words .counted, words .low, none-amiss-listed (s .args .members) _ (words .walks) (amiss .none (omega (arith, amiss .most))))
+    (words .few, words .counted, words .low, none-amiss-listed (s .args .members) _ (words .walks) (amiss .none (omega (arith, amiss .most))), s .pre .2)
 
 returns-5 : tie.Need-returns-5
 returns-5 c t words =
-    let a = c .before .before in
+    let a = c .before .before .before in
     let u = a .before .before in
     let m = u .before .before in
     let amiss = a .lowest-amiss .ensures t (words .walks) in
