@@ -62,7 +62,7 @@ module _ {file : List ℕ} {n a total : ℕ} {vars posts places manys steps want
       size : length (take (length (t .tasks)) state) ≡ length (t .tasks)
       size = length-take-le (length (t .tasks)) state (omega (arith, few, prep .variables))
 
-  going-starts : (ranks : List ℕ) → length state ≡ 32 → Going ranks file places manys steps wants state (replicate 32 0) (prep .list) [] t
+  pub going-starts : (ranks : List ℕ) → length state ≡ 32 → Going ranks file places manys steps wants state (replicate 32 0) (prep .list) [] t
   unfolding wanted
   going-starts ranks long = record {
     past = [];
