@@ -126,7 +126,7 @@
  *   marrowkite_record_at        128
  *   marrowkite_write            768
  *   marrowkite_report        10,240
- *   marrowkite_chart         13,312
+ *   marrowkite_chart         11,904
  *   marrowkite_replay         3,456
  *   marrowkite_journeys       5,376
  */

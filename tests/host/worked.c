@@ -331,7 +331,7 @@ static int in_a_row(void) {
   return holds;
 }
 
-/* Threads of the smallest stack that the C library allows, of which it leaves 11,968 bytes; for charts a page more. */
+/* Threads of the smallest stack that the C library allows, of which it leaves 11,968 bytes. */
 typedef unsigned long pthread_t;
 typedef union {
   char size[56];
@@ -341,7 +341,7 @@ int pthread_attr_init(pthread_attr_t *attr);
 int pthread_attr_setstacksize(pthread_attr_t *attr, size_t size);
 int pthread_create(pthread_t *thread, const pthread_attr_t *attr, void *(*start)(void *), void *arg);
 int pthread_join(pthread_t thread, void **result);
-enum { THREADS = 8, SMALLEST_STACK = 16384, STACK_FOR_CHARTS = 20480 };
+enum { THREADS = 8, SMALLEST_STACK = 16384 };
 
 static int charts_in_a_row(void) {
   static const uint8_t listed[] = {0, 1, 2, 3}, orders[] = {ORDERS};
@@ -362,10 +362,10 @@ static void *many_charts(void *holds) {
   return 0;
 }
 
-static int on_threads(void *(*work)(void *), size_t stack) {
+static int on_threads(void *(*work)(void *)) {
   pthread_attr_t attr;
   pthread_t threads[THREADS];
-  int each[THREADS], holds = pthread_attr_init(&attr) == 0 && pthread_attr_setstacksize(&attr, stack) == 0;
+  int each[THREADS], holds = pthread_attr_init(&attr) == 0 && pthread_attr_setstacksize(&attr, SMALLEST_STACK) == 0;
   for (int i = 0; i < THREADS; i++) {
     each[i] = 1;
     if (pthread_create(&threads[i], &attr, work, &each[i]) != 0) return 0;
@@ -477,8 +477,8 @@ int main(void) {
                                record_at(NOTHING, 0, (marrowkite_record){1, 0, 0, 0, 0}));
   report("the generator's 10,000th number", generator());
   report("different files in a row", in_a_row());
-  report("many calls on 8 threads of 16 KiB", on_threads(many_in_a_row, SMALLEST_STACK));
-  report("many charts on 8 threads of 20 KiB", on_threads(many_charts, STACK_FOR_CHARTS));
+  report("many calls on 8 threads of 16 KiB", on_threads(many_in_a_row));
+  report("many charts on 8 threads of 16 KiB", on_threads(many_charts));
   printf("%d passed, %d failed\n", passed, failed);
   return failed != 0;
 }

@@ -1,18 +1,16 @@
 // Checks a chart of a study file: the list of actions, the pairs, and whether a chain of pairs gives every direct order.
 ghost use mathlib.Core.Path.{_≡_};
-ghost use mathlib.Core.List.{List};
+ghost use mathlib.Core.Logic.{_≢_};
 ghost use Prim.Native.Nat.{ℕ};
+ghost use lib.ListN.{length};
 ghost use Rattle.study.specs.Study.{Study};
-ghost use Rattle.draw.specs.Draw.{drawn};
-ghost use Rattle.plans.specs.Plans.{StraightPlan};
-ghost use Rattle.walks.specs.Walks.{Walks};
-ghost use Rattle.planning.specs.Planning.{Plans};
-ghost use Rattle.ordering.specs.Ordering.{OrderableIn};
-ghost use Rattle.stages.specs.Whole.{KnownIn, WalkingIn};
-ghost use Rattle.charts.specs.Charts.{chartOf};
-ghost use Rattle.charts.specs.Answers.{Listed, Charts, ChartAllows};
-ghost use Rattle.listing.specs.Listing.{SetOf};
+ghost use Rattle.stages.specs.Whole.{KnownIn};
+ghost use Rattle.charts.specs.Charts.{Chart, chartOf};
+ghost use Rattle.charts.specs.Answers.{Plannable, Listed, Charts, ChartAllows};
+ghost use Rattle.listing.specs.Listing.{Empty, SetOf, SetOfWalks};
+ghost use Rattle.lacking.specs.Lacking.{Lacks};
 use answer::Answer;
+use lacking::Lack;
 use linking::Closed;
 use tables::Loaded;
 use tracing::Walked;
@@ -29,22 +27,44 @@ const MOST_PAIRS: usize = 4096;
 // No action: what `lowest_amiss` answers if none is.
 const NONE: u16 = 256;
 
-// The list is in order, and these are its actions: 26, 27, 28, or 0.
-fn vet_pairs(
+// There is a straight plan: the lowest direct order that the closed rows lack. The walks are entered only here, so that the
+// steps take the place that closing has left.
+fn weigh_orders(
     file: &[u8],
+    n: usize,
     count: usize,
     acts: &[[u8; 6]; 256],
     vars: &[[u8; 3]; 32],
     setters: &[u8; 512],
-    steps: &[u16; 512],
+    rows: &[[u64; 4]; 256],
+) -> Lack
+    requires { ⌜ ((t : Study) × (x : ℕ) × KnownIn (now file) n count x (now acts) (now vars) (now setters) t × Plannable t) ⌝ }
+    ensures { λ r. ⌜ ((t : Study) (x : ℕ)
+        → KnownIn (now (file .entry)) n count x (now (acts .entry)) (now (vars .entry)) (now (setters .entry)) t
+        → Plannable t
+        → Lacks t (now (rows .entry)) r) ⌝ }
+{
+    let mut steps = [0u16; 512];
+    tracing::walk_all(n, count, acts, vars, setters, &mut steps);
+    lacking::lowest(file, count, acts, vars, setters, &steps, rows)
+}
+
+// The list is in order, and these are its actions: 26, 27, 28, or 0.
+fn vet_pairs(
+    file: &[u8],
+    n: usize,
+    count: usize,
+    acts: &[[u8; 6]; 256],
+    vars: &[[u8; 3]; 32],
+    setters: &[u8; 512],
     listed: &[u64; 4],
     actions: &[u8],
     pairs: &[u8],
 ) -> Answer
     requires { ⌜ SetOf (now actions) (now listed)
-        × ((t : Study) × OrderableIn (now file) count (now acts) (now vars) (now setters) (now steps) t) ⌝ }
-    ensures { λ r. ⌜ ((t : Study)
-        → OrderableIn (now (file .entry)) count (now (acts .entry)) (now (vars .entry)) (now (setters .entry)) (now (steps .entry)) t
+        × ((t : Study) × (x : ℕ) × KnownIn (now file) n count x (now acts) (now vars) (now setters) t × Plannable t) ⌝ }
+    ensures { λ r. ⌜ ((t : Study) (x : ℕ)
+        → KnownIn (now (file .entry)) n count x (now (acts .entry)) (now (vars .entry)) (now (setters .entry)) t
         → Listed t (chartOf (now (actions .entry)) (now (pairs .entry)))
         → Charts t (chartOf (now (actions .entry)) (now (pairs .entry))) r) ⌝ }
 {
@@ -58,45 +78,11 @@ fn vet_pairs(
     let Closed::Chains = closed else {
         return vetting::numbers(27, 0, 0);
     };
-    let lack = lacking::lowest(file, count, acts, vars, setters, steps, &rows);
+    let lack = weigh_orders(file, n, count, acts, vars, setters, &rows);
     vetting::told(lack, actions.len(), many)
 }
 
-// The same; the walks are entered first.
-fn vet_listed(
-    file: &[u8],
-    n: usize,
-    count: usize,
-    acts: &[[u8; 6]; 256],
-    vars: &[[u8; 3]; 32],
-    setters: &[u8; 512],
-    listed: &[u64; 4],
-    actions: &[u8],
-    pairs: &[u8],
-) -> Answer
-    requires { ⌜ SetOf (now actions) (now listed)
-        × ((t : Study) × (x : ℕ) × KnownIn (now file) n count x (now acts) (now vars) (now setters) t × Walks t) ⌝ }
-    ensures { λ r. ⌜ ((t : Study) (x : ℕ)
-        → KnownIn (now (file .entry)) n count x (now (acts .entry)) (now (vars .entry)) (now (setters .entry)) t
-        → Listed t (chartOf (now (actions .entry)) (now (pairs .entry)))
-        → Charts t (chartOf (now (actions .entry)) (now (pairs .entry))) r) ⌝ }
-{
-    let mut steps = [0u16; 512];
-    tracing::walk_all(n, count, acts, vars, setters, &mut steps);
-    vet_pairs(
-        file,
-        count,
-        acts,
-        vars,
-        setters,
-        &steps,
-        listed,
-        actions,
-        pairs,
-    )
-}
-
-// There is a straight plan: 19, 14, 25, and what comes after.
+// There is a straight plan, and the members are the walk actions: 19, 14, 25, and what comes after.
 fn vet(
     file: &[u8],
     n: usize,
@@ -104,14 +90,16 @@ fn vet(
     acts: &[[u8; 6]; 256],
     vars: &[[u8; 3]; 32],
     setters: &[u8; 512],
-    plan: &[u8],
+    members: &[u64; 4],
     actions: &[u8],
     pairs: &[u8],
 ) -> Answer
-    requires { ⌜ ((t : Study) × (x : ℕ) × KnownIn (now file) n count x (now acts) (now vars) (now setters) t × StraightPlan t (now plan)) ⌝ }
+    requires { ⌜ (length (now members) ≡ 4)
+        × ((t : Study) × (x : ℕ) × KnownIn (now file) n count x (now acts) (now vars) (now setters) t × Plannable t) ⌝ }
     ensures { λ r. ⌜ ((t : Study) (x : ℕ)
         → KnownIn (now (file .entry)) n count x (now (acts .entry)) (now (vars .entry)) (now (setters .entry)) t
-        → StraightPlan t (now (plan .entry))
+        → Plannable t
+        → SetOfWalks t (now (members .entry))
         → Charts t (chartOf (now (actions .entry)) (now (pairs .entry))) r) ⌝ }
 {
     if MOST_ACTIONS < actions.len() {
@@ -125,81 +113,57 @@ fn vet(
     if k < actions.len() {
         return vetting::numbers(14, k, 0);
     }
-    let mut listed = [0u64; 4];
-    let low = listing::lowest_amiss(actions, plan, &mut listed);
+    let low = listing::lowest_amiss(actions, members);
     if low < NONE {
         return vetting::numbers(25, low as usize, 0);
     }
-    vet_listed(file, n, count, acts, vars, setters, &listed, actions, pairs)
+    vet_pairs(file, n, count, acts, vars, setters, members, actions, pairs)
 }
 
-// Every variable has a walk: takes the walk actions by rank. The frame of `stages::plan_loaded` would stand on that of the
-// rows; here the tables of planning take the rows' place in one frame.
-fn plan_walked(
+// 10, 11, 12; or 0, and the walk actions are put into a set that is lent empty.
+fn ready_many(
     file: &[u8],
-    ranks: &[u8],
-    n: usize,
-    total: usize,
-    acts: &[[u8; 6]; 256],
-    vars: &[[u8; 3]; 32],
-    steps: &[u16; 512],
-    plan: &mut [u8],
-) -> Answer
-    requires { ⌜ ((t : Study) × (setters : List ℕ) × WalkingIn (now file) (now ranks) n total (now acts) (now vars) setters (now steps) t) ⌝ }
-    ensures { λ r. ⌜ ((t : Study) (setters : List ℕ)
-        → WalkingIn (now (file .entry)) (now (ranks .entry)) n total (now (acts .entry)) (now (vars .entry)) setters (now (steps .entry)) t
-        → Plans t (now (ranks .entry)) (now (plan .entry)) r (now (plan .exit))) ⌝ }
-{
-    let mut wants = [0u16; 512];
-    let met = wanting::want_all(file, ranks.len(), acts, steps, &mut wants);
-    let Met::All = met else {
-        return handing::unmet(met);
-    };
-    let mut room = [0u8; 512];
-    let taken = stages::take_many(
-        file,
-        ranks,
-        n,
-        total,
-        acts,
-        vars,
-        steps,
-        &mut wants,
-        &mut room,
-    );
-    handing::finish(taken, total, &room, plan)
-}
-
-// Plans with the list that the seed draws, and leaves the table of setters as it is.
-fn plan_aside(
-    file: &[u8],
-    seed: u64,
     n: usize,
     count: usize,
     acts: &[[u8; 6]; 256],
     vars: &[[u8; 3]; 32],
     setters: &[u8; 512],
-    plan: &mut [u8],
+    members: &mut [u64; 4],
 ) -> Answer
-    requires { ⌜ ((t : Study) × KnownIn (now file) n count seed (now acts) (now vars) (now setters) t) ⌝ }
-    ensures { λ r. ⌜ ((t : Study)
-        → KnownIn (now (file .entry)) n count seed (now (acts .entry)) (now (vars .entry)) (now (setters .entry)) t
-        → Plans t (drawn seed count) (now (plan .entry)) r (now (plan .exit))) ⌝ }
+    requires { ⌜ (length (now members) ≡ 4) × Empty (now members)
+        × ((t : Study) × (x : ℕ) × KnownIn (now file) n count x (now acts) (now vars) (now setters) t) ⌝ }
+    ensures { λ r. ⌜ length (now (members .exit)) ≡ 4 ⌝ }
+    ensures { λ r. ⌜ ((t : Study) (x : ℕ)
+        → KnownIn (now (file .entry)) n count x (now (acts .entry)) (now (vars .entry)) (now (setters .entry)) t
+        → r .number ≢ 0
+        → (c : Chart)
+        → Charts t c r) ⌝ }
+    ensures { λ r. ⌜ ((t : Study) (x : ℕ)
+        → KnownIn (now (file .entry)) n count x (now (acts .entry)) (now (vars .entry)) (now (setters .entry)) t
+        → r .number ≡ 0
+        → Plannable t × SetOfWalks t (now (members .exit))) ⌝ }
 {
-    let mut ranks = [0u8; 256];
-    draw::draw(seed, count as u64, &mut ranks);
     let mut steps = [0u16; 512];
     let walked = tracing::walk_all(n, count, acts, vars, setters, &mut steps);
     let Walked::All(total) = walked else {
         return handing::unwalked(walked);
     };
-    plan_walked(file, &ranks[..count], n, total, acts, vars, &steps, plan)
+    let mut wants = [0u16; 512];
+    let met = wanting::want_all(file, count, acts, &steps, &mut wants);
+    let Met::All = met else {
+        return handing::unmet(met);
+    };
+    let taken = sweeping::sweep(file, n, total, acts, vars, &steps, &mut wants);
+    if taken < total {
+        return vetting::numbers(12, taken, 0);
+    }
+    listing::gather_walks(count, acts, &steps, members);
+    vetting::numbers(0, total, 0)
 }
 
-// What was loaded has many actions: a plan first, then the chart.
+// What was loaded has many actions: whether there is a plan first, then the chart.
 fn chart_many(
     file: &[u8],
-    seed: u64,
     n: usize,
     count: usize,
     acts: &[[u8; 6]; 256],
@@ -208,17 +172,16 @@ fn chart_many(
     actions: &[u8],
     pairs: &[u8],
 ) -> Answer
-    requires { ⌜ ((t : Study) × KnownIn (now file) n count seed (now acts) (now vars) (now setters) t) ⌝ }
-    ensures { λ r. ⌜ ((t : Study)
-        → KnownIn (now (file .entry)) n count seed (now (acts .entry)) (now (vars .entry)) (now (setters .entry)) t
+    requires { ⌜ ((t : Study) × (x : ℕ) × KnownIn (now file) n count x (now acts) (now vars) (now setters) t) ⌝ }
+    ensures { λ r. ⌜ ((t : Study) (x : ℕ)
+        → KnownIn (now (file .entry)) n count x (now (acts .entry)) (now (vars .entry)) (now (setters .entry)) t
         → Charts t (chartOf (now (actions .entry)) (now (pairs .entry))) r) ⌝ }
 {
-    let mut plan = [0u8; 256];
-    let planned = plan_aside(file, seed, n, count, acts, vars, setters, &mut plan);
-    if planned.number != 0 {
-        return planned;
+    let mut members = [0u64; 4];
+    let readied = ready_many(file, n, count, acts, vars, setters, &mut members);
+    if readied.number != 0 {
+        return readied;
     }
-    let len = planned.first as usize;
     vet(
         file,
         n,
@@ -226,7 +189,7 @@ fn chart_many(
         acts,
         vars,
         setters,
-        &plan[..len],
+        &members,
         actions,
         pairs,
     )
@@ -243,13 +206,13 @@ pub fn chart(file: &[u8], crew: u64, actions: &[u8], pairs: &[u8]) -> Answer
     let Loaded::Study {
         vars: n,
         actions: count,
-        seed,
+        seed: _,
     } = found
     else {
         return tables::refused(found);
     };
     if FEW < count {
-        return chart_many(file, seed, n, count, &acts, &vars, &setters, actions, pairs);
+        return chart_many(file, n, count, &acts, &vars, &setters, actions, pairs);
     }
     vetting::chart_few(file, n, count, &acts, &vars, &mut setters, actions, pairs)
 }

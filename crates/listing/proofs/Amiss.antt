@@ -15,7 +15,7 @@ use Rattle.orders.specs.Orders.{In}
 use Rattle.study.specs.Study.{Study}
 use Rattle.walks.specs.Walks.{OnAWalk}
 use Rattle.charts.specs.Faults.{Amiss, repeats, missing, on-no-walk}
-use Rattle.listing.specs.Listing.{unlike, FindsAmiss}
+use Rattle.listing.specs.Listing.{unlike, SetOf, FindsAmiss}
 use Rattle.listing.proofs.Gathering.{counted-in}
 
 -- tests of what is in a list, of what repeats in it, of the walk actions, and of what is amiss
@@ -39,6 +39,23 @@ member-low words four i w = go (decLt i 256)
     go : Dec (i < 256) → i < 256
     go (yes h) = h
     go (no h) = absurd (not-both w (none-beyond words i (omega arith)))
+
+-- where nobody is in just one of two sets, both have the numbers of one list
+pub same-set :
+    (list listed members : List ℕ) (twice amiss : ℕ → Bool) → length listed ≡ 4 → length members ≡ 4
+    → ((i : ℕ) → i < 256 → amiss i ≡ (unlike (within listed i) (within members i) || twice i)) → ((i : ℕ) → i < 256 → amiss i ≡ false)
+    → SetOf list listed → SetOf list members
+same-set list listed members twice amiss long four differ none set i =
+    (λ w. set i .0 (same (member-low members four i w) ∙ w), λ m. sym (same (member-low listed long i (set i .1 m))) ∙ set i .1 m)
+  where
+    alike : (a b d : Bool) → (unlike a b || d) ≡ false → a ≡ b
+    alike true true d w = refl
+    alike false false d w = refl
+    alike true false d w = absurd (true≢false w)
+    alike false true d w = absurd (true≢false w)
+
+    same : i < 256 → within listed i ≡ within members i
+    same h = alike (within listed i) (within members i) (twice i) (sym (differ i h) ∙ none i h)
 
 module _ {t : Study} {list : List ℕ} {listed twice walking amiss : ℕ → Bool} (c : Compared t list listed twice walking amiss) where
   amiss-low : (i : ℕ) → Amiss t list i → i < 256

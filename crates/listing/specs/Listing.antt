@@ -11,6 +11,7 @@ use Rattle.ranks.specs.Ranks.{count}
 use Rattle.orders.specs.Orders.{In}
 use Rattle.linking.specs.Linking.{Rows, Linked}
 use Rattle.study.specs.Study.{Study}
+use Rattle.walks.specs.Walks.{OnAWalk}
 use Rattle.charts.specs.Charts.{Pair, Paired}
 use Rattle.charts.specs.Faults.{AllUsable, FirstUnusable, NoneAmiss, LowestAmiss, Astray, NoneAstray, FirstAstray}
 
@@ -29,7 +30,11 @@ Empty set = (i : ℕ) → within set i ≡ false
 abbrev pub SetOf : List ℕ → List ℕ → Type 0
 SetOf list set = (i : ℕ) → (within set i ≡ true) ↔ In i list
 
--- .. just those that stand in it twice or more
+-- .. just the walk actions
+abbrev pub SetOfWalks : Study → List ℕ → Type 0
+SetOfWalks t set = (i : ℕ) → (within set i ≡ true) ↔ OnAWalk t i
+
+-- .. just those that stand in the list twice or more
 abbrev pub RepeatsOf : List ℕ → List ℕ → Type 0
 RepeatsOf list set = (i : ℕ) → (within set i ≡ true) ↔ (1 < count i list)
 

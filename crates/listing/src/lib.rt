@@ -5,14 +5,13 @@ ghost use mathlib.Core.List.{List};
 ghost use Prim.Native.Nat.{ℕ, _≤_};
 ghost use lib.ListN.{length};
 ghost use Rattle.bits.specs.Bits.{bit};
-ghost use Rattle.orders.specs.Orders.{In};
 ghost use Rattle.study.specs.Study.{Study};
-ghost use Rattle.walks.specs.Walks.{OnAWalk};
 ghost use Rattle.tables.specs.Rows.{outColumn};
-ghost use Rattle.tracing.specs.Facts.{TellsForce};
+ghost use Rattle.tracing.specs.Facts.{TellsForce, WishesIn};
+ghost use Rattle.tracing.specs.Steps.{Rowed};
 ghost use Rattle.linking.specs.Linking.{Shaped};
 ghost use Rattle.charts.specs.Charts.{pair, pairsOf};
-ghost use Rattle.listing.specs.Listing.{FindsUnusable, Empty, SetOf, RepeatsOf, Differing, FindsAmiss, AllEmpty, TellsStray, Links};
+ghost use Rattle.listing.specs.Listing.{FindsUnusable, Empty, SetOf, SetOfWalks, RepeatsOf, Differing, FindsAmiss, AllEmpty, TellsStray, Links};
 
 // The index of the first entry that is no action or out of force, or the list's length.
 pub fn first_unusable(list: &[u8], actions: usize, acts: &[[u8; 6]; 256]) -> usize
@@ -53,6 +52,31 @@ fn gather(list: &[u8], set: &mut [u64; 4], twice: &mut [u64; 4])
     }
 }
 
+// Puts the actions that their step names into a set that is lent empty: those on walks.
+pub fn gather_walks(
+    actions: usize,
+    acts: &[[u8; 6]; 256],
+    steps: &[u16; 512],
+    members: &mut [u64; 4],
+)
+    requires { ⌜ (length (now members) ≡ 4) × Empty (now members) × ((t : Study) × (file : List ℕ) × WishesIn file actions (now acts) t) ⌝ }
+    ensures { λ _. ⌜ length (now (members .exit)) ≡ 4 ⌝ }
+    ensures { λ _. ⌜ ((t : Study) (file : List ℕ)
+        → WishesIn file actions (now (acts .entry)) t
+        → Rowed t (length (t .tasks)) (now (steps .entry))
+        → SetOfWalks t (now (members .exit))) ⌝ }
+{
+    let mut i = 0;
+    while i < actions {
+        let act = tables::action_at(acts, i);
+        let j = 16 * tables::wide(act.var) + tables::wide(act.pre);
+        if steps[j] == (i + 2) as u16 {
+            bits::add(members, i as u8);
+        }
+        i += 1;
+    }
+}
+
 // The bits of x that y has not.
 fn lacking(x: u64, y: u64) -> u64
     ensures { λ r. ⌜ ((j : ℕ) → bit r j ≡ (not (bit y j) && bit x j)) ⌝ }
@@ -76,22 +100,17 @@ fn differ(one: &[u64; 4], other: &[u64; 4], set: &mut [u64; 4])
     }
 }
 
-// The lowest action that stands twice in the list, or in just one of list and plan; 256 if there is none. The set is lent
-// empty, and is then that of the list's actions.
-pub fn lowest_amiss(list: &[u8], plan: &[u8], listed: &mut [u64; 4]) -> u16
-    requires { ⌜ (length (now listed) ≡ 4) × Empty (now listed) ⌝ }
-    ensures { λ r. ⌜ (length (now (listed .exit)) ≡ 4) × SetOf (now (list .entry)) (now (listed .exit)) ⌝ }
-    ensures { λ r. ⌜ ((t : Study)
-        → ((i : ℕ) → In i (now (plan .entry)) → OnAWalk t i)
-        → ((i : ℕ) → OnAWalk t i → In i (now (plan .entry)))
-        → FindsAmiss t (now (list .entry)) r) ⌝ }
+// The lowest action that stands twice in the list, or in just one of list and members; 256 if there is none, and then the members are the
+// list's actions.
+pub fn lowest_amiss(list: &[u8], members: &[u64; 4]) -> u16
+    requires { ⌜ length (now members) ≡ 4 ⌝ }
+    ensures { λ r. ⌜ (256 ≤ r → SetOf (now (list .entry)) (now (members .entry))) ⌝ }
+    ensures { λ r. ⌜ ((t : Study) → SetOfWalks t (now (members .entry)) → FindsAmiss t (now (list .entry)) r) ⌝ }
 {
     let mut amiss = [0u64; 4];
-    gather(list, listed, &mut amiss);
-    let mut planned = [0u64; 4];
-    let mut again = [0u64; 4];
-    gather(plan, &mut planned, &mut again);
-    differ(listed, &planned, &mut amiss);
+    let mut listed = [0u64; 4];
+    gather(list, &mut listed, &mut amiss);
+    differ(&listed, members, &mut amiss);
     bits::least(&amiss)
 }
 

@@ -78,12 +78,12 @@ returns c =
     rw said (c .refused .ensures ∙ ap notLoaded e)
 
 chart-many-requires : tie.Need-chart-many-requires
-chart-many-requires c κs = let f = c .before .before .before .before .before in (study f, known f)
+chart-many-requires c κs = let f = c .before .before .before .before .before in (study f, seed-of f, known f)
 
 returns-2 : tie.Need-returns-2
 returns-2 c =
     let f = c .before .before .before .before .before .before in
-    rw (said f) (c .chart-many .ensures (study f) (known f))
+    rw (said f) (c .chart-many .ensures (study f) (seed-of f) (known f))
 
 chart-few-requires : tie.Need-chart-few-requires
 chart-few-requires c κs = let f = c .before .before .before .before .before in (omega arith, held f .2 .sized .setters, (study f, seed-of f, known f))

@@ -5,7 +5,6 @@ use native.Mathlib.Omega.{arith}
 use mathlib.Core.Path.{_≡_, refl}
 use lib.ListN.{length}
 use denote.Ref.{now}
-use Rattle.walks.proofs.Ordered.{straight-met}
 use Rattle.listing.specs.Listing.{Links}
 use Rattle.charts.specs.Charts.{Chart, chartOf}
 use Rattle.charter.proofs.Fresh.{fresh-shaped, fresh-all-empty}
@@ -41,7 +40,7 @@ numbers-requires : tie.Need-numbers-requires
 numbers-requires c κs = search needs
 
 returns : tie.Need-returns
-returns c t orderable listed =
+returns c t x known listed =
     let l = c .before .before in
     rw (c .numbers .ensures) (linked-astray (chart-of l) listed (links-of l) (omega (arith, many-of l)))
 
@@ -65,27 +64,26 @@ numbers-requires-2 : tie.Need-numbers-requires-2
 numbers-requires-2 c κs = search needs
 
 returns-2 : tie.Need-returns-2
-returns-2 c t orderable listed =
+returns-2 c t x known listed =
     let d = c .before .before .before in
     let l = d .before .before .before in
     rw (c .numbers2 .ensures)
     (ring-charts (chart-of l) (links-of l) (all-of l (omega arith)) (d .close .ensures .1) (c .before .enum-told2 .given .1) listed)
 
-lowest-requires : tie.Need-lowest-requires
-lowest-requires c κs = start-of (c .before .before .before .before .before .before) .pre .1
+weigh-orders-requires : tie.Need-weigh-orders-requires
+weigh-orders-requires c κs = start-of (c .before .before .before .before .before .before) .pre .1
 
 told-requires : tie.Need-told-requires
 told-requires c κs = search needs
 
 returns-3 : tie.Need-returns-3
-returns-3 c t orderable listed =
+returns-3 c t x known listed =
     let w = c .before in
     let d = w .before .before .before .before in
     let l = d .before .before .before in
-    let met = straight-met (orderable .wishes .lawful) (listed .usably .within .plannable .1) in
     rw (c .told .ensures, ← many-of l)
     (closed-charts (chart-of l) (links-of l) (all-of l (omega arith)) listed (d .close .ensures .1) (w .before .before .enum-told .given .1)
-    (w .lowest .ensures t orderable met))
+    (w .weigh-orders .ensures t x known (listed .usably .within .plannable)))
 
 pub vet-pairs-spec : {M : Type 1} → statement M
 vet-pairs-spec =
@@ -100,6 +98,6 @@ vet-pairs-spec =
     enum-told-2
     numbers-requires-2
     returns-2
-    lowest-requires
+    weigh-orders-requires
     told-requires
     returns-3)
