@@ -3,8 +3,11 @@
 
     tests/edits.py SHARE SHARES    SHARE from 1 on
 
-A crate's edits stay together; the shares are made even by how many edits a crate has and how many functions. The must-fail folders of
-the other shares are removed from the copy, so that this is not run in a repository. The last line is 'N passed, M failed'.
+An edit is made in the copy's own crate, and the crate is checked as `rt dev` does it: the modules that the edit does not reach are
+those that were checked when the crate was proved from nothing, the others are checked again. An edit is refused where the prover
+says that the crate is not proved, and does not begin with saying that the proof is for code of another shape, in which case no fact
+need have failed. What it said is kept in target/must-fail/CRATE/EDIT.log. A crate's edits stay together, and the shares are made even
+by how many edits there are. The last line is 'N passed, M failed'.
 """
 
 import os
@@ -12,39 +15,115 @@ import re
 import shutil
 import subprocess
 import sys
+import time
 from pathlib import Path
 
-
-def cost(folder):
-    """What a crate's edits cost to try, in functions: each costs a check of the whole crate, which costs some functions by itself."""
-    functions = sum(len(re.findall(r"^ *(?:pub )?fn ", path.read_text(), re.M)) for path in (folder.parent / "src").rglob("*.rt"))
-    return len(list(folder.glob("*.edit"))) * (3 + functions)
+CRATES, TARGET = Path("crates"), Path("target")
+ERROR = re.compile(r"^(\S*): error: (.*)$", re.M)
+OTHER_SHAPE = re.compile(r"`\S*`: record `\S*\.Lts\.\S*` has no field")
 
 
 def shares(folders, many):
-    """The folders in so many lists, the dearest first into the list that is cheapest so far."""
-    lists, costs = [[] for _ in range(many)], [0] * many
-    for folder in sorted(folders, key=lambda folder: (-cost(folder), folder)):
-        least = costs.index(min(costs))
+    """The folders in so many lists, those of the most edits first into the list that has the fewest so far."""
+    lists, edits = [[] for _ in range(many)], [0] * many
+    for count, folder in sorted(((len(list(folder.glob("*.edit"))), folder) for folder in folders), key=lambda one: (-one[0], one[1])):
+        least = edits.index(min(edits))
         lists[least].append(folder)
-        costs[least] += cost(folder)
+        edits[least] += count
     return lists
+
+
+class Prover:
+    """The kit's prover, called as `rt dev` calls it but for the look at what the crate stands on, which is proved."""
+
+    def __init__(self):
+        guide = subprocess.run(["rt", "doc"], check=True, text=True, stdout=subprocess.PIPE).stdout.split()[0]
+        self.home = Path(guide).parent.parent
+        self.own = self.home / "on" / os.uname().machine
+        lines = (line.split("#")[0].split(":") for line in Path("crates.txt").read_text().splitlines())
+        self.stands_on = {line[0].strip(): line[1].split() for line in lines if len(line) == 2}
+        if not re.search(r"^logic=proved", self.check("answer")[0], re.M):
+            sys.exit("tests/edits.py: a crate without an edit is not proved here")
+        self.folder = next((TARGET / "inc" / "answer").glob("antt-checked*"), None)
+
+    def check(self, crate):
+        """What the prover says of a crate, and whether it refuses it for a fact."""
+        root = next(path for path in (CRATES / crate / "src" / name for name in ("main.rt", "lib.rt")) if path.exists())
+        rlibs = {name: (TARGET if (CRATES / name).exists() else self.own) / "rlib" / f"{name}.rlib" for name in self.stands_on[crate]}
+        words = [self.own / "bin" / "rattle", "check", "--crate-name", crate, root]
+        for name, rlib in {"std": self.own / "rlib" / "std.rlib", **rlibs}.items():
+            words += ["--extern", f"{name}={rlib}"]
+        words += ["-L", f"dependency={TARGET / 'rlib'}", "-L", f"dependency={self.own / 'rlib'}"]
+        words += ["--antt-project", self.home / "logic" / "antt-project.json", "--logic-built", self.own / "logic-built"]
+        words += ["--incremental", TARGET / "inc" / crate]
+        (TARGET / "inc" / crate).mkdir(parents=True, exist_ok=True)
+        run = subprocess.run([str(word) for word in words], text=True, stdout=subprocess.PIPE, stderr=subprocess.STDOUT)
+        refused = run.returncode == 1 and re.search(r"^logic=not-proved", run.stdout, re.M)
+        first = ERROR.search(run.stdout)
+        return run.stdout, bool(refused and not (first and OTHER_SHAPE.match(first[2])))
+
+    def reuse_proof(self, crate):
+        """Puts the modules that were checked when the crate was proved from nothing where the prover looks for them, in place of what
+        the edit before left there; a program keeps none. If they were of no use there, an edit would only take longer."""
+        modules = TARGET / "rlib" / f"{crate}.rlib" / "toolchain" / "checked"
+        if modules.exists() and self.folder:
+            shutil.rmtree(TARGET / "inc" / crate, ignore_errors=True)
+            shutil.copytree(modules, TARGET / "inc" / crate / self.folder.name)
+
+
+def edited(edit):
+    """The texts of the files that an edit changes, by path, before and after."""
+    before, after, path, old = {}, {}, None, None
+    for line in edit.read_text().splitlines():
+        if line.startswith("file: "):
+            path = edit.parents[1] / line[6:]
+        elif line.startswith("old: "):
+            old = line[5:]
+        elif line.startswith("new:"):
+            text = after.get(path) or before.setdefault(path, path.read_text())
+            if text.count(old) != 1:
+                sys.exit(f"tests/edits.py: {edit}: an 'old:' text is in {path} {text.count(old)} times")
+            after[path] = text.replace(old, line[4:].removeprefix(" "))
+    if not after:
+        sys.exit(f"tests/edits.py: {edit}: it has no 'old:' and 'new:' pair")
+    return before, after
+
+
+def put(texts):
+    for path, text in texts.items():
+        path.write_text(text)
+
+
+def refuses(prover, edit):
+    """Whether the prover refuses an edit; says so."""
+    crate = edit.parents[1].name
+    before, after = edited(edit)
+    began = time.time()
+    prover.reuse_proof(crate)
+    put(after)
+    said, refused = prover.check(crate)
+    put(before)
+    log = TARGET / "must-fail" / crate / f"{edit.stem}.log"
+    log.parent.mkdir(parents=True, exist_ok=True)
+    log.write_text(said)
+    first = ERROR.search(said) or re.search(r"^note: (\S*:\d+:\d+):", said, re.M)
+    place = f"first at {os.path.relpath(first[1], edit.parents[1])}; " if first else ""
+    word = "refused, as it must be" if refused else "NOT REFUSED"
+    print(f"must-fail {crate}/{edit.stem}: {word} ({place}{time.time() - began:.0f} s)", flush=True)
+    if not refused:
+        print(said)
+    return refused
 
 
 def main():
     share, many = map(int, sys.argv[1:])
     if Path(".git").exists():
         sys.exit("tests/edits.py: this is a repository, and no copy of one")
-    lists = shares(sorted(Path("crates").glob("*/must-fail")), many)
-    edits = sum(len(list(folder.glob("*.edit"))) for folder in lists[share - 1])
-    for folder in (folder for other in lists[: share - 1] + lists[share:] for folder in other):
-        shutil.rmtree(folder)
-    run = subprocess.run(["rt", "must-fail"], env={**os.environ, "RT_JOBS": "1"}, text=True, stdout=subprocess.PIPE, stderr=subprocess.STDOUT)
-    print("\n".join(line for line in run.stdout.splitlines() if not line.endswith("(unchanged since it was last proved)")))
-    refused = len(re.findall(r"^rt: must-fail \S+: refused, as it must be", run.stdout, re.M))
-    failed = edits - refused if refused < edits else int(run.returncode != 0)
-    print(f"{refused} passed, {failed} failed")
-    sys.exit(failed != 0)
+    prover = Prover()
+    folders = shares(sorted(CRATES.glob("*/must-fail")), many)[share - 1]
+    results = [refuses(prover, edit) for folder in folders for edit in sorted(folder.glob("*.edit"))]
+    print(f"{sum(results)} passed, {len(results) - sum(results)} failed")
+    sys.exit(not all(results))
 
 
 main()
