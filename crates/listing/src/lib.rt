@@ -1,10 +1,8 @@
 // What is wrong with a chart's list and pairs, found in loaded tables; the pairs as rows of bits.
 ghost use mathlib.Core.Path.{_≡_};
-ghost use mathlib.Core.Bool.{not, _&&_};
 ghost use mathlib.Core.List.{List};
 ghost use Prim.Native.Nat.{ℕ, _≤_};
 ghost use lib.ListN.{length};
-ghost use Rattle.bits.specs.Bits.{bit};
 ghost use Rattle.study.specs.Study.{Study};
 ghost use Rattle.tables.specs.Rows.{outColumn};
 ghost use Rattle.tracing.specs.Facts.{TellsForce, WishesIn};
@@ -77,13 +75,6 @@ pub fn gather_walks(
     }
 }
 
-// The bits of x that y has not.
-fn lacking(x: u64, y: u64) -> u64
-    ensures { λ r. ⌜ ((j : ℕ) → bit r j ≡ (not (bit y j) && bit x j)) ⌝ }
-{
-    (x | y) ^ y
-}
-
 // Puts what is in one of two sets and not in the other into a third.
 fn differ(one: &[u64; 4], other: &[u64; 4], set: &mut [u64; 4])
     requires { ⌜ length (now set) ≡ 4 ⌝ }
@@ -94,7 +85,7 @@ fn differ(one: &[u64; 4], other: &[u64; 4], set: &mut [u64; 4])
     while q < 4 {
         let x = one[q];
         let y = other[q];
-        let unlike = bits::joined(lacking(x, y), lacking(y, x));
+        let unlike = bits::joined(linking::without(x, y), linking::without(y, x));
         set[q] = bits::joined(set[q], unlike);
         q += 1;
     }

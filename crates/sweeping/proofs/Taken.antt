@@ -28,7 +28,7 @@ use Rattle.taking.proofs.OneMore.{taken-lowerable, one-more}
 use Rattle.taking.proofs.TakingRounds.{going-starts, total-few}
 use Rattle.stages.specs.Whole.{WantsCounted}
 use Rattle.stages.proofs.Stages.{counted-prepared}
-use Rattle.sweeping.specs.Moving.{Stays, Looks, Moves, none, more, Safe, Guided}
+use Rattle.sweeping.specs.Moving.{Stays, Looks, Moves, none, more, LooksInRange, Guided}
 use Rattle.sweeping.specs.Sweeping.{Swept}
 
 -- as many actions were taken, and the counts and the state answer to them; without ranks, every ready action is one of least rank
@@ -68,8 +68,8 @@ module _ {file : List ℕ} {n a total : ℕ} {acts : List Row} {steps wants₀ s
         own-post : getD (postColumn acts) i 0 ≡ postOf t i
         own-post = prep .deeds .tells-post i (omega (arith, on-walk-usable (ready .is-member) .there, prep .deeds .actions))
 
-    safe : Safe file acts steps n wants state
-    safe = record {
+    in-range : LooksInRange file acts steps n wants state
+    in-range = record {
       few = omega (arith, prep .variables, few-tasks prep (so-far .going));
       wants-long = so-far .wants-long;
       narrow = λ v h. narrow prep (so-far .going) v (omega (arith, prep .variables));
@@ -113,7 +113,7 @@ module _ {file : List ℕ} {n a total : ℕ} {acts : List Row} {steps wants₀ s
     moves-take (more v i rest h looks) = taken-more (moves-take rest) v i h looks
 
     guides : Guided file acts steps n wants₀ state₀
-    guides k wants state moves = let s = moves-take moves in (safe s, omega (arith, most s, total-few prep))
+    guides k wants state moves = let s = moves-take moves in (in-range s, omega (arith, most s, total-few prep))
 
 -- ---- the conditions were counted, and each variable was set at its start
 

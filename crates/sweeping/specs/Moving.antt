@@ -27,7 +27,7 @@ module _ (file : List ℕ) (acts : List Row) (steps : List ℕ) where
   Stays wants state v = (i : ℕ) → Looks wants state v i → ⊥
 
   -- what keeps a look at each of the first n variables in range, and the move after it
-  pub record Safe (n : ℕ) (wants state : List ℕ) : Type 0 where
+  pub record LooksInRange (n : ℕ) (wants state : List ℕ) : Type 0 where
     pub few : n ≤ 32
     pub wants-long : length wants ≡ 512
     pub narrow : (v : ℕ) → v < n → getD state v 0 < 16
@@ -44,7 +44,7 @@ module _ (file : List ℕ) (acts : List Row) (steps : List ℕ) where
 
   -- wherever moves lead, the next are in range; and there are at most 256 of them
   abbrev pub Guided : ℕ → List ℕ → List ℕ → Type 0
-  Guided n wants state = (k : ℕ) (wants′ state′ : List ℕ) → Moves n wants state k wants′ state′ → Safe n wants′ state′ × (k ≤ 256)
+  Guided n wants state = (k : ℕ) (wants′ state′ : List ℕ) → Moves n wants state k wants′ state′ → LooksInRange n wants′ state′ × (k ≤ 256)
 
   -- r moves, and v cannot move on
   pub record Advanced (n v : ℕ) (wants state : List ℕ) (r : ℕ) (wants′ state′ : List ℕ) : Type 0 where

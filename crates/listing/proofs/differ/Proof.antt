@@ -27,11 +27,11 @@ mul-y c = search needs
 element-copy-out-y : tie.Need-element-copy-out-y Inv-loop μ-loop
 element-copy-out-y c = search needs
 
-lacking-requires : tie.Need-lacking-requires Inv-loop μ-loop
-lacking-requires c κs = search needs
+without-requires : tie.Need-without-requires Inv-loop μ-loop
+without-requires c κs = search needs
 
-lacking-requires-2 : tie.Need-lacking-requires-2 Inv-loop μ-loop
-lacking-requires-2 c κs = search needs
+without-requires-2 : tie.Need-without-requires-2 Inv-loop μ-loop
+without-requires-2 c κs = search needs
 
 joined-requires : tie.Need-joined-requires Inv-loop μ-loop
 joined-requires c κs = search needs
@@ -63,8 +63,8 @@ loop-again c =
     let m = j .before in
     let l = m .before in
     let d = l .before .before .before in
-    one-passed (l .lacking .result) (m .lacking2 .result) (j .joined .result) (c .joined2 .result) (d .before .loop .inv) (d .loop-test .taken)
-    (l .lacking .ensures) (m .lacking2 .ensures) (j .joined .ensures) (c .joined2 .ensures)
+    one-passed (l .without .result) (m .without2 .result) (j .joined .result) (c .joined2 .result) (d .before .loop .inv) (d .loop-test .taken)
+    (l .without .ensures) (m .without2 .ensures) (j .joined .ensures) (c .joined2 .ensures)
 
 returns : tie.Need-returns Inv-loop μ-loop
 returns c = let u = c .before .loop .inv in (u .long, all-passed u (c .loop-test .left))
@@ -80,8 +80,8 @@ differ-spec =
     element-copy-out-x
     mul-y
     element-copy-out-y
-    lacking-requires
-    lacking-requires-2
+    without-requires
+    without-requires-2
     joined-requires
     mul-joined
     element-copy-out-joined

@@ -10,7 +10,7 @@ use lib.ListN.{getD}
 use Rattle.tables.specs.Rows.{placeColumn, manyColumn}
 use Rattle.opening.specs.Conditions.{Readable}
 use Rattle.opening.specs.Opening.{stepOf}
-use Rattle.sweeping.specs.Moving.{Guided, Moves, none, more, Safe, Looks, wantedAfter, stateAfter}
+use Rattle.sweeping.specs.Moving.{Guided, Moves, none, more, LooksInRange, Looks, wantedAfter, stateAfter}
 use Rattle.sweeping.proofs.advance.Statement.{statement}
 use Rattle.sweeping.proofs.advance.Tie as tie
 
@@ -21,20 +21,20 @@ Inv-loop file v acts steps wants₀ state₀ k₀ wants state k =
 abbrev μ-loop : tie.MeasureT-loop
 μ-loop file v acts steps wants₀ state₀ k₀ wants state k = 256 - k
 
--- v is one of the variables, and a look at it is safe
+-- v is one of the variables, and a look at it is in range
 abbrev Here : tie.At-loop Inv-loop μ-loop → Type 0
 Here l =
     let s = l .before .before .args in
-    (n : ℕ) × (s .v < n) × Safe (s .file .now) (s .acts .now) (s .steps .now) n (l .loop .wants) (l .loop .state)
+    (n : ℕ) × (s .v < n) × LooksInRange (s .file .now) (s .acts .now) (s .steps .now) n (l .loop .wants) (l .loop .state)
 
 here : (l : tie.At-loop Inv-loop μ-loop) → Here l
 here l = let (n, h, g) = l .before .before .pre in (n, h, g _ _ _ (l .loop .inv n h g) .0)
 
 low : (l : tie.At-loop Inv-loop μ-loop) → l .before .before .args .v < 32
-low l = let (n, h, safe) = here l in omega (arith, safe .few)
+low l = let (n, h, within) = here l in omega (arith, within .few)
 
 entry-low : (w : tie.After-wide Inv-loop μ-loop) → 16 * w .before .before .before .before .args .v + w .wide .result < 512
-entry-low w = let (n, h, safe) = here (w .before .before) in omega (arith, safe .few, safe .narrow _ h, w .wide .ensures .0)
+entry-low w = let (n, h, within) = here (w .before .before) in omega (arith, within .few, within .narrow _ h, w .wide .ensures .0)
 
 -- the action that v's step names
 abbrev named : tie.Else2 Inv-loop μ-loop → ℕ
@@ -51,10 +51,10 @@ names-next c =
     rw (w .wide .ensures .0) (omega (arith, rw (w .wide .ensures .0) at (c .if2 .left)))
 
 -- .. and can be looked at
-next-safe :
+next-in-range :
     (c : tie.Else2 Inv-loop μ-loop) → (let s = c .before .before .before .before .before .before .before .before .args in
     (named c < 256) × Readable (s .file .now) (getD (placeColumn (s .acts .now)) (named c) 0) (getD (manyColumn (s .acts .now)) (named c) 0))
-next-safe c = let (n, h, safe) = here (c .before .before .before .before .before .before) in safe .next _ _ h (names-next c)
+next-in-range c = let (n, h, within) = here (c .before .before .before .before .before .before) in within .next _ _ h (names-next c)
 
 -- all its conditions hold: it looks ready
 looks-ready :
@@ -130,18 +130,18 @@ returns-2 c =
     λ n h g. record { moves = l .loop .inv n h g; stays = λ i looks. omega (arith, rw (w .wide .ensures .0) at (c .if2 .taken), looks .next) }
 
 cast-action-at : tie.Need-cast-action-at Inv-loop μ-loop
-cast-action-at c = omega (arith, next-safe c .0)
+cast-action-at c = omega (arith, next-in-range c .0)
 
 sub-action-at : tie.Need-sub-action-at Inv-loop μ-loop
 sub-action-at c = search needs
 
 action-at-requires : tie.Need-action-at-requires Inv-loop μ-loop
-action-at-requires c κs = next-safe c .0
+action-at-requires c κs = next-in-range c .0
 
 all-hold-requires : tie.Need-all-hold-requires Inv-loop μ-loop
 all-hold-requires c κs =
     let a = c .before in
-    rw (a .action-at .ensures .place, a .action-at .ensures .many) (next-safe (a .before) .1)
+    rw (a .action-at .ensures .place, a .action-at .ensures .many) (next-in-range (a .before) .1)
 
 returns-3 : tie.Need-returns-3 Inv-loop μ-loop
 returns-3 c =
@@ -161,8 +161,8 @@ unwant-requires c κs =
     let e = c .before in
     let a = e .before .before .before in
     let o = a .action-at .ensures in
-    let (n, h, safe) = here (a .before .before .before .before .before .before .before) in
-    (rw (o .place, o .many) (safe .able _ _ h (looks-ready e)), safe .wants-long)
+    let (n, h, within) = here (a .before .before .before .before .before .before .before) in
+    (rw (o .place, o .many) (within .able _ _ h (looks-ready e)), within .wants-long)
 
 element-write-state : tie.Need-element-write-state Inv-loop μ-loop
 element-write-state c = low (c .before .before .before .before .before .before .before .before .before .before .before .before)
