@@ -1,19 +1,25 @@
 // Makes the lift journeys of a crew's plan.
+ghost use mathlib.Core.Path.{_≡_};
+ghost use lib.ListN.{length, drop};
+ghost use Rattle.study.specs.Study.{Study};
+ghost use Rattle.study.specs.Reading.{says, readingFor};
 ghost use Rattle.planning.specs.Planning.{PlanAllows};
 ghost use Rattle.journeys.specs.Allowed.{JourneysAllows};
 use answer::Answer;
 use ranking::Tested;
 use tables::Loaded;
 
-// Plans as `planner::plan` does. If both calls shared that, it would stand behind each as a function of its own, and planning would
-// take more stack than it may.
-fn plan_aside(file: &[u8], crew: u64, ranks: &[u8], plan: &mut [u8]) -> Answer
-    ensures { λ r. ⌜ PlanAllows (now (file .entry)) crew (now (ranks .entry)) (now (plan .entry)) r (now (plan .exit)) ⌝ }
+// Plans as `planner::plan` does, and leaves the plan in the room from 256 on. If both calls shared that, it would stand behind
+// each as a function of its own, and planning would take more stack than it may. Where loading refuses the file it says nothing of
+// its tables, and so nothing of the room.
+fn plan_aside(file: &[u8], crew: u64, ranks: &[u8], room: &mut [u8; 512]) -> Answer
+    requires { ⌜ length (now room) ≡ 512 ⌝ }
+    ensures { λ _. ⌜ ((t : Study) → readingFor (now (file .entry)) crew ≡ says t → length (now (room .exit)) ≡ 512) ⌝ }
+    ensures { λ r. ⌜ PlanAllows (now (file .entry)) crew (now (ranks .entry)) (drop 256 (now (room .exit))) r (drop 256 (now (room .exit))) ⌝ }
 {
     let mut acts = [[0u8; 6]; 256];
     let mut vars = [[0u8; 3]; 32];
-    let mut setters = [0u8; 512];
-    let found = mustering::load_for(file, crew, &mut acts, &mut vars, &mut setters);
+    let found = mustering::load_for(file, crew, &mut acts, &mut vars, room);
     let Loaded::Study {
         vars: n,
         actions,
@@ -26,7 +32,7 @@ fn plan_aside(file: &[u8], crew: u64, ranks: &[u8], plan: &mut [u8]) -> Answer
     let Tested::Fine = tested else {
         return handing::unranked(tested, ranks.len());
     };
-    stages::plan_loaded(file, ranks, n, actions, &acts, &vars, &mut setters, plan)
+    stages::plan_in_room(file, ranks, n, actions, &acts, &vars, room)
 }
 
 // Answer 0 gives the number of journeys and writes them, three bytes each; a refusal alters nothing.
@@ -40,11 +46,11 @@ pub fn journeys(
 ) -> Answer
     ensures { λ r. ⌜ JourneysAllows (now (file .entry)) crew (now (ranks .entry)) (now (rides .entry)) start (now (journeys .entry)) r (now (journeys .exit)) ⌝ }
 {
-    let mut plan = [0u8; 256];
-    let planned = plan_aside(file, crew, ranks, &mut plan);
+    let mut room = [0u8; 512];
+    let planned = plan_aside(file, crew, ranks, &mut room);
     if planned.number != 0 {
         return planned;
     }
     let steps = planned.first as usize;
-    riding::ride(&plan[..steps], ranks.len(), rides, start, journeys)
+    riding::ride(&room[256..256 + steps], ranks.len(), rides, start, journeys)
 }

@@ -1,2 +1,3 @@
 pub mod NotRanked
 pub mod Outcomes
+pub mod HandedOver

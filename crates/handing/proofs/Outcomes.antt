@@ -1,10 +1,10 @@
 -- What was taken greedily: all of the walk actions, which is the first plan, or fewer, which is refusal 12.
 -- Assumes nothing.
-use mathlib.Core.Path.{_≡_, subst, _∙_}
+use mathlib.Core.Path.{_≡_, subst}
 use mathlib.Core.List.{List, _++_}
 use Prim.Native.Nat.{ℕ, _≤_, _<_}
 use native.Mathlib.Omega.{arith}
-use lib.ListN.{length, take, drop, length-drop}
+use lib.ListN.{length, take, drop, length-drop, take-append-drop}
 use lib.Seq.{length-take-le}
 use Rattle.answer.specs.Answers.{done}
 use Rattle.ranking.proofs.Fine.{fine-is-rank-list}
@@ -17,11 +17,11 @@ use Rattle.orders.proofs.Members.{takes-distinct, takes-members}
 use Rattle.orders.proofs.Grown.{greedy-so-far, greedy-so-far-takes}
 use Rattle.walks.specs.Walks.{OnAWalk, ComesBefore}
 use Rattle.walks.proofs.Leads.{on-walk-usable}
-use Rattle.planning.specs.Refusals.{withRing, shortBuffer}
-use Rattle.planning.specs.Planning.{Plans, ring, no-room, a-plan, FirstPlan, rankIn}
+use Rattle.planning.specs.Refusals.{withRing}
+use Rattle.planning.specs.Planning.{Plans, ring, a-plan, FirstPlan, rankIn}
 use Rattle.planning.proofs.Found.{greedy-is-first-plan, greedy-stuck}
 use Rattle.tracing.specs.Steps.{Members}
-use Rattle.handing.specs.Handing.{Taken}
+use Rattle.handing.specs.Handing.{Taken, InRoom}
 
 -- no more walk actions than 256
 pub few-in-all : {t : Study} {list : List ℕ} → Lawful t → Members t list → length list ≤ 256
@@ -65,13 +65,14 @@ module _
       same : k ≡ total
       same = omega arith
 
-      pub too-long : (before : List ℕ) → length before < total → Plans t ranks before (shortBuffer total) before
-      too-long before h =
-          subst (λ (m : ℕ). Plans t ranks before (shortBuffer m) before) (as-many ∙ same)
-          (no-room (ended .ranked) all-is-first-plan (omega (arith, as-many)))
-
       pub fits : (before : List ℕ) → total ≤ length before → Plans t ranks before (done total 0) (take total (drop 256 room) ++ drop total before)
       fits before h =
           subst (λ (m : ℕ). Plans t ranks before (done m 0) (take m (drop 256 room) ++ drop m before)) same
           (subst (λ (m : ℕ). Plans t ranks before (done m 0) (out ++ drop m before)) as-many
           (a-plan (ended .ranked) all-is-first-plan (omega (arith, as-many))))
+
+      -- .. and its own half of the room has it already
+      pub all-in-room : InRoom t ranks (done total 0) room
+      all-in-room =
+          subst (λ (after : List ℕ). Plans t ranks (drop 256 room) (done total 0) after) (take-append-drop total (drop 256 room))
+          (fits (drop 256 room) (omega (arith, few-in-all (ended .lawful) (ended .members), ended .counted, length-drop 256 room)))

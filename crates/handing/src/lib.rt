@@ -5,10 +5,11 @@ ghost use Prim.Native.Nat.{ℕ, _≤_};
 ghost use lib.ListN.{length, take, drop};
 ghost use Rattle.answer.specs.Answers.{three};
 ghost use Rattle.study.specs.Study.{Study};
+ghost use Rattle.lawful.specs.Lawful.{Lawful};
 ghost use Rattle.planning.specs.Refusals.{notRanked};
 ghost use Rattle.planning.specs.Planning.{Plans};
 ghost use Rattle.handing.specs.Answers.{notWalked, notMet, notOrdered, notChosen};
-ghost use Rattle.handing.specs.Handing.{Taken};
+ghost use Rattle.handing.specs.Handing.{Taken, InRoom};
 use answer::Answer;
 use choosing::Choice;
 use ordering::Found;
@@ -89,19 +90,35 @@ fn copy_out(room: &[u8; 512], n: usize, plan: &mut [u8])
     }
 }
 
-// So many of the walk actions were taken.
-pub fn finish(taken: usize, total: usize, room: &[u8; 512], plan: &mut [u8]) -> Answer
-    requires { ⌜ (taken ≤ total) × (total ≤ 256) × (length (now room) ≡ 512) ⌝ }
-    ensures { λ r. ⌜ ((t : Study) (ranks : List ℕ)
-        → Taken t ranks total taken (now (room .entry))
-        → Plans t ranks (now (plan .entry)) r (now (plan .exit))) ⌝ }
+// So many of the walk actions were taken, and stand in the room: all of them, or 12.
+pub fn finish(taken: usize, total: usize) -> Answer
+    requires { ⌜ taken ≤ total ⌝ }
+    ensures { λ r. ⌜ ((t : Study) (ranks room : List ℕ)
+        → length room ≡ 512
+        → Taken t ranks total taken room
+        → InRoom t ranks r room) ⌝ }
 {
     if taken < total {
         return unchosen(Choice::Nothing, taken);
     }
+    numbers(0, total, 0)
+}
+
+// What planning came to, as a call's answer: the plan in the room becomes the first of its buffer, if that has room.
+pub fn hand_over(planned: Answer, room: &[u8; 512], plan: &mut [u8]) -> Answer
+    requires { ⌜ (length (now room) ≡ 512) × ((t : Study) × (ranks : List ℕ) × Lawful t × InRoom t ranks planned (now room)) ⌝ }
+    ensures { λ r. ⌜ ((t : Study) (ranks : List ℕ)
+        → Lawful t
+        → InRoom t ranks planned (now (room .entry))
+        → Plans t ranks (now (plan .entry)) r (now (plan .exit))) ⌝ }
+{
+    if planned.number != 0 {
+        return planned;
+    }
+    let total = planned.first as usize;
     if plan.len() < total {
         return numbers(13, total, 0);
     }
     copy_out(room, total, plan);
-    numbers(0, total, 0)
+    planned
 }

@@ -1,4 +1,4 @@
-// The stages of planning what was loaded: walks, conditions on them, actions taken by rank, the plan written.
+// The stages of planning what was loaded: walks, conditions on them, actions taken by rank, the plan handed over.
 ghost use mathlib.Core.Path.{_≡_};
 ghost use Prim.Native.Nat.{ℕ, _≤_};
 ghost use lib.ListN.{length};
@@ -7,7 +7,7 @@ ghost use Rattle.study.specs.Study.{Study};
 ghost use Rattle.planning.specs.Planning.{Plans};
 ghost use Rattle.draw.specs.Draw.{drawn};
 ghost use Rattle.ordering.specs.Ordering.{Ordered};
-ghost use Rattle.handing.specs.Handing.{Taken};
+ghost use Rattle.handing.specs.Handing.{Taken, InRoom};
 ghost use Rattle.stages.specs.Whole.{KnownIn, GivenIn, WalkingIn, Orderly, WantsCountedIn};
 use answer::Answer;
 use ordering::Found;
@@ -54,14 +54,13 @@ fn plan_many(
     vars: &[[u8; 3]; 32],
     steps: &[u16; 512],
     room: &mut [u8; 512],
-    plan: &mut [u8],
 ) -> Answer
     requires { ⌜ (length (now room) ≡ 512)
         × ((t : Study) × WalkingIn (now file) (now ranks) n total (now acts) (now vars) (now room) (now steps) t) ⌝ }
     ensures { λ _. ⌜ length (now (room .exit)) ≡ 512 ⌝ }
     ensures { λ r. ⌜ ((t : Study)
         → WalkingIn (now (file .entry)) (now (ranks .entry)) n total (now (acts .entry)) (now (vars .entry)) (now (room .entry)) (now (steps .entry)) t
-        → Plans t (now (ranks .entry)) (now (plan .entry)) r (now (plan .exit))) ⌝ }
+        → InRoom t (now (ranks .entry)) r (now (room .exit))) ⌝ }
 {
     let mut wants = [0u16; 512];
     let met = wanting::want_all(file, ranks.len(), acts, steps, &mut wants);
@@ -69,7 +68,7 @@ fn plan_many(
         return handing::unmet(met);
     };
     let taken = take_many(file, ranks, n, total, acts, vars, steps, &mut wants, room);
-    handing::finish(taken, total, room, plan)
+    handing::finish(taken, total)
 }
 
 // The ranks of few actions are bits of one word, and those that come directly before each are known.
@@ -102,14 +101,13 @@ fn plan_few(
     vars: &[[u8; 3]; 32],
     steps: &[u16; 512],
     room: &mut [u8; 512],
-    plan: &mut [u8],
 ) -> Answer
     requires { ⌜ (length (now room) ≡ 512) × (length (now ranks) ≤ 64)
         × ((t : Study) × (n : ℕ) × WalkingIn (now file) (now ranks) n total (now acts) (now vars) (now room) (now steps) t) ⌝ }
     ensures { λ _. ⌜ length (now (room .exit)) ≡ 512 ⌝ }
     ensures { λ r. ⌜ ((t : Study) (n : ℕ)
         → WalkingIn (now (file .entry)) (now (ranks .entry)) n total (now (acts .entry)) (now (vars .entry)) (now (room .entry)) (now (steps .entry)) t
-        → Plans t (now (ranks .entry)) (now (plan .entry)) r (now (plan .exit))) ⌝ }
+        → InRoom t (now (ranks .entry)) r (now (room .exit))) ⌝ }
 {
     let mut words = [0u64; 128];
     let found = ordering::order_all(
@@ -126,7 +124,7 @@ fn plan_few(
         return handing::unordered(found);
     };
     let taken = take_few(members, total, ranks, &mut words, room);
-    handing::finish(taken, total, room, plan)
+    handing::finish(taken, total)
 }
 
 // Every variable has a walk: the plan, by one of the two ways.
@@ -139,23 +137,47 @@ fn plan_walked(
     vars: &[[u8; 3]; 32],
     steps: &[u16; 512],
     room: &mut [u8; 512],
-    plan: &mut [u8],
 ) -> Answer
     requires { ⌜ (length (now room) ≡ 512)
         × ((t : Study) × WalkingIn (now file) (now ranks) n total (now acts) (now vars) (now room) (now steps) t) ⌝ }
     ensures { λ _. ⌜ length (now (room .exit)) ≡ 512 ⌝ }
     ensures { λ r. ⌜ ((t : Study)
         → WalkingIn (now (file .entry)) (now (ranks .entry)) n total (now (acts .entry)) (now (vars .entry)) (now (room .entry)) (now (steps .entry)) t
-        → Plans t (now (ranks .entry)) (now (plan .entry)) r (now (plan .exit))) ⌝ }
+        → InRoom t (now (ranks .entry)) r (now (room .exit))) ⌝ }
 {
     if FEW < ranks.len() {
-        return plan_many(file, ranks, n, total, acts, vars, steps, room, plan);
+        return plan_many(file, ranks, n, total, acts, vars, steps, room);
     }
-    plan_few(file, ranks, total, acts, vars, steps, room, plan)
+    plan_few(file, ranks, total, acts, vars, steps, room)
 }
 
-// What was loaded, with a rank list of it. The table of setters is used up: its room takes the actions by rank, and those
-// that are taken.
+// What was loaded, with a rank list of it. The table of setters is used up: its room takes the actions by rank, and from 256 on
+// those that are taken, which are the plan.
+pub fn plan_in_room(
+    file: &[u8],
+    ranks: &[u8],
+    n: usize,
+    actions: usize,
+    acts: &[[u8; 6]; 256],
+    vars: &[[u8; 3]; 32],
+    setters: &mut [u8; 512],
+) -> Answer
+    requires { ⌜ (length (now setters) ≡ 512)
+        × ((t : Study) × GivenIn (now file) (now ranks) n actions (now acts) (now vars) (now setters) t) ⌝ }
+    ensures { λ _. ⌜ length (now (setters .exit)) ≡ 512 ⌝ }
+    ensures { λ r. ⌜ ((t : Study)
+        → GivenIn (now (file .entry)) (now (ranks .entry)) n actions (now (acts .entry)) (now (vars .entry)) (now (setters .entry)) t
+        → InRoom t (now (ranks .entry)) r (now (setters .exit))) ⌝ }
+{
+    let mut steps = [0u16; 512];
+    let walked = tracing::walk_all(n, actions, acts, vars, setters, &mut steps);
+    let Walked::All(total) = walked else {
+        return handing::unwalked(walked);
+    };
+    plan_walked(file, ranks, n, total, acts, vars, &steps, setters)
+}
+
+// The same, with the plan handed over in a buffer.
 pub fn plan_loaded(
     file: &[u8],
     ranks: &[u8],
@@ -172,12 +194,8 @@ pub fn plan_loaded(
         → GivenIn (now (file .entry)) (now (ranks .entry)) n actions (now (acts .entry)) (now (vars .entry)) (now (setters .entry)) t
         → Plans t (now (ranks .entry)) (now (plan .entry)) r (now (plan .exit))) ⌝ }
 {
-    let mut steps = [0u16; 512];
-    let walked = tracing::walk_all(n, actions, acts, vars, setters, &mut steps);
-    let Walked::All(total) = walked else {
-        return handing::unwalked(walked);
-    };
-    plan_walked(file, ranks, n, total, acts, vars, &steps, setters, plan)
+    let planned = plan_in_room(file, ranks, n, actions, acts, vars, setters);
+    handing::hand_over(planned, setters, plan)
 }
 
 // The same with the list that the seed draws.

@@ -1,61 +1,26 @@
--- `stages::plan_loaded` meets its contract: a variable with no walk is refusal 10, else planning goes on with the walks.
+-- `stages::plan_loaded` meets its contract: what planning came to in the room is handed over.
 -- Assumes nothing.
-use mathlib.Core.Path.{refl, ap, _∙_}
-use Rattle.planning.specs.Planning.{no-walk}
-use Rattle.handing.specs.Answers.{notWalked}
-use Rattle.stages.proofs.Stages.{given-moves, given-starts, given-goals, given-ranked, given-traced, given-walking}
 use borrow.Author.Needs.{needs}
 use Rattle.stages.proofs.plan_loaded.Statement.{statement}
 use Rattle.stages.proofs.plan_loaded.Tie as tie
 
-walk-all-requires : tie.Need-walk-all-requires
-walk-all-requires c κs =
-    let (t, given) = c .before .before .before .before .before .pre .1 in
-    (refl, (t, given-moves given, given .variables, given-starts given, given-goals given))
+plan-in-room-requires : tie.Need-plan-in-room-requires
+plan-in-room-requires c κs = search needs
 
-enum-known-walked : tie.Need-enum-known-walked
-enum-known-walked c = search needs
-
-enum-told : tie.Need-enum-told
-enum-told c = search needs
-
-unwalked-requires : tie.Need-unwalked-requires
-unwalked-requires c κs = search needs
-
-returns : tie.Need-returns
-returns c t given =
-    let e = c .before .enum-told .given .1 in
-    rw (c .unwalked .ensures ∙ ap notWalked e)
-    (no-walk (given-ranked given) (rw e at (given-traced given (c .before .before .before .walk-all .ensures .1 t))))
-
-plan-walked-requires : tie.Need-plan-walked-requires
-plan-walked-requires c κs =
-    let w = c .before .before .before .before in
-    let a = w .before .before in
-    let s = a .before .before .before .before .before .before in
-    let (t, given) = s .pre .1 in
-    let (rowed, (list, (members, counted))) = rw (w .walked .given .1) at (given-traced given (a .walk-all .ensures .1 t)) in
-    (s .pre .0, (t, given-walking given _ _ rowed list members counted))
+hand-over-requires : tie.Need-hand-over-requires
+hand-over-requires c κs =
+    let p = c .before .before in
+    let (t, given) = p .before .before .before .before .before .pre .1 in
+    (p .plan-in-room .ensures .0, (t, _, given .lawful, p .plan-in-room .ensures .1 t given))
 
 same-length : tie.Need-same-length
 same-length c = search needs
 
-returns-2 : tie.Need-returns-2
-returns-2 c t given =
-    let p = c .before .before in
-    let w = p .before .before .before .before .before in
-    let (rowed, (list, (members, counted))) = rw (w .walked .given .1) at (given-traced given (w .before .before .walk-all .ensures .1 t)) in
-    p .plan-walked .ensures .1 t (given-walking given _ _ rowed list members counted)
+returns : tie.Need-returns
+returns c t given =
+    let h = c .before .before in
+    h .hand-over .ensures t _ (given .lawful) (h .before .before .before .plan-in-room .ensures .1 t given)
 
 pub plan-loaded-spec : {M : Type 1} → statement M
 plan-loaded-spec =
-    tie.close
-    (tie.spec
-    walk-all-requires
-    enum-known-walked
-    enum-told
-    unwalked-requires
-    returns
-    plan-walked-requires
-    same-length
-    returns-2)
+    tie.close (tie.spec plan-in-room-requires hand-over-requires same-length returns)

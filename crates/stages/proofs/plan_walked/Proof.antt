@@ -7,21 +7,15 @@ use Rattle.stages.proofs.plan_walked.Tie as tie
 plan-many-requires : tie.Need-plan-many-requires
 plan-many-requires c κs = search needs
 
-same-length : tie.Need-same-length
-same-length c = search needs
-
 returns : tie.Need-returns
 returns c = search needs
 
 plan-few-requires : tie.Need-plan-few-requires
 plan-few-requires c κs = search needs
 
-same-length-2 : tie.Need-same-length-2
-same-length-2 c = search needs
-
 returns-2 : tie.Need-returns-2
 returns-2 c =
-    let ensured = c .before .before .plan-few .ensures in
+    let ensured = c .plan-few .ensures in
     (ensured .0, λ t walking. ensured .1 t _ walking)
 
 pub plan-walked-spec : {M : Type 1} → statement M
@@ -29,8 +23,6 @@ plan-walked-spec =
     tie.close
     (tie.spec
     plan-many-requires
-    same-length
     returns
     plan-few-requires
-    same-length-2
     returns-2)
