@@ -121,7 +121,7 @@
  *   marrowkite_check          2,560
  *   marrowkite_plan           5,120
  *   marrowkite_plan_seeded    5,376
- *   marrowkite_run            3,200
+ *   marrowkite_run            2,688
  *   marrowkite_draw             128
  *   marrowkite_record_at        128
  *   marrowkite_write            768

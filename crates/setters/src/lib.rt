@@ -1,30 +1,12 @@
 // The table of setters, filled from the rows of the actions once all are read.
 ghost use mathlib.Core.Path.{_≡_};
-ghost use mathlib.Core.Bool.{_||_};
 ghost use mathlib.Core.List.{List};
 ghost use Prim.Native.Nat.{ℕ, _≤_, _<_};
-ghost use lib.Dec.{eqb};
 ghost use lib.ListN.{length};
-ghost use Rattle.bits.specs.Bits.{bit};
 ghost use Rattle.study.specs.Study.{Action};
 ghost use Rattle.tables.specs.Tables.{HoldsActions};
 ghost use Rattle.tables.specs.Rows.{seen};
 ghost use Rattle.setters.specs.Filling.{Named, Filled};
-
-// Whether a value is among the marked ones of a variable, a bit for each.
-fn has_mark(word: u16, q: u8) -> bool
-    requires { ⌜ q < 16 ⌝ }
-    ensures { λ r. ⌜ r ≡ bit word q ⌝ }
-{
-    bits::holds(word as u64, q)
-}
-
-fn with_mark(word: u16, q: u8) -> u16
-    requires { ⌜ q < 16 ⌝ }
-    ensures { λ r. ⌜ ((j : ℕ) → bit r j ≡ (eqb q j || bit word j)) ⌝ }
-{
-    bits::mark(word as u64, q) as u16
-}
 
 // Names action i for the value that it sets, and marks the value, unless the action is out of force. Says no, and names
 // nothing, where the value is marked: an earlier action in force sets it too.
@@ -44,10 +26,10 @@ fn name(i: usize, acts: &[[u8; 6]; 256], setters: &mut [u8; 512], marks: &mut [u
     let v = tables::wide(act.var) % 32;
     let q = act.post % 16;
     let word = marks[v];
-    if has_mark(word, q) {
+    if marks::has(word, q) {
         return false;
     }
-    marks[v] = with_mark(word, q);
+    marks[v] = marks::with(word, q);
     setters[16 * v + tables::wide(q)] = i as u8;
     true
 }

@@ -1,15 +1,16 @@
 -- One step of a run, as the tables tell it, is one step of the definition.
 -- Assumes nothing.
 use mathlib.Core.Path.{_≡_, sym, _∙_}
-use mathlib.Core.Bool.{true, false, not}
+use mathlib.Core.Bool.{true, false, _||_}
 use mathlib.Core.List.{List, _∷_}
-use Prim.Native.Nat.{ℕ, _+_, _*_, _≤_, _<_}
+use Prim.Native.Nat.{ℕ, _+_, _≤_, _<_}
 use native.Mathlib.Omega.{arith}
 use lib.Dec.{eqb}
 use lib.ListN.{length, getD, set, length-set}
 use lib.Seq.{take-set-lt, length-take-le}
-use borrow.Author.Tests.{le-leb, lt-leb, eq-eqb, ne-eqb, not-true, not-false}
+use borrow.Author.Tests.{le-leb, lt-leb}
 use Rattle.answer.specs.Answers.{three, refusal}
+use Rattle.bits.specs.Bits.{bit}
 use Rattle.study.specs.Study.{Action, Study, inForce, actionAt}
 use Rattle.lawful.specs.Lawful.{LawfulAction}
 use Rattle.plans.specs.Plans.{State, Usable, after}
@@ -59,23 +60,19 @@ module _ {file : List ℕ} {actions : ℕ} {acts : List Row} {t : Study} (ready 
   lawful : LawfulAction (t .counts) (actionAt (t .actions) i)
   lawful = ready .lawful .action i (omega (arith, ready .count))
 
-  module _ {act : Act} (tells : Tells file act (actionAt (t .actions) i)) {v p : ℕ} (var : v ≡ act .var) (post : p ≡ act .post) where
-    var-is : v ≡ actionAt (t .actions) i .var
-    var-is = var ∙ tells .var
+  module _ {act : Act} (tells : Tells file act (actionAt (t .actions) i)) where
+    post-small : act .post < 16
+    post-small = omega (arith, tells .post, lawful .has-post .small, ready .lawful .few-values (actionAt (t .actions) i .var) (lawful .has-post .there))
 
-    post-is : p ≡ actionAt (t .actions) i .post
-    post-is = post ∙ tells .post
+    module _ {v : ℕ} (var : v ≡ act .var) where
+      var-is : v ≡ actionAt (t .actions) i .var
+      var-is = var ∙ tells .var
 
-    var-small : v < length (t .counts)
-    var-small = rw var-is (lawful .has-post .there)
+      var-small : v < length (t .counts)
+      var-small = rw var-is (lawful .has-post .there)
 
-    post-small : p < 16
-    post-small = omega (arith, post-is, lawful .has-post .small, ready .lawful .few-values (actionAt (t .actions) i .var) (lawful .has-post .there))
-
-    pub mark-in-range : (v < 32) × (16 * v + p < 512)
-    mark-in-range =
-        let few = ready .lawful .few-variables in
-        (omega (arith, var-small), omega (arith, var-small, post-small))
+      pub mark-in-range : (v < 32) × (act .post < 16)
+      mark-in-range = (omega (arith, var-small, ready .lawful .few-variables), post-small)
 
 module _
     {file : List ℕ} {actions : ℕ} {acts : List Row} {t : Study}
@@ -111,40 +108,39 @@ module _
         module _
             (nothing : Idle ≡ stanceOf (lacks table (actionAt (t .actions) i)))
             {act : Act} (tells : Tells file act (actionAt (t .actions) i))
-            {v p : ℕ} (var : v ≡ act .var) (post : p ≡ act .post)
+            {v : ℕ} (var : v ≡ act .var)
           where
             unbarred : barred (shown t table) (actionAt (t .actions) i) ≡ none
             unbarred = free (shown t table) (actionAt (t .actions) i) (rw lacks-is nothing)
 
-            told : eqb (getD marks (16 * v + p) 0) 0 ≡ not (held (shown t table ∷ past) (actionAt (t .actions) i .var) (actionAt (t .actions) i .post))
+            told : bit (getD marks v 0) (act .post) ≡ held (shown t table ∷ past) (actionAt (t .actions) i .var) (actionAt (t .actions) i .post)
             told =
-                stage .marked .tells v p (var-small ready i there tells var post) (post-small ready i there tells var post)
-                ∙ (rw (var-is ready i there tells var post, post-is ready i there tells var post))
+                stage .marked .tells v (act .post) (var-small ready i there tells var) (post-small ready i there tells)
+                ∙ (rw (var-is ready i there tells var, tells .post))
 
-            pub takes-16 : (getD marks (16 * v + p) 0 ≡ 0 → ⊥) → Takes t past k i table table marks (Stops (three 16 k v))
-            takes-16 o rest =
-                run-held t past (shown t table) k i rest usable unbarred (not-false _ (sym told ∙ ne-eqb _ 0 o))
-                ∙ (rw (var-is ready i there tells var post))
+            pub takes-16 : bit (getD marks v 0) (act .post) ≡ true → Takes t past k i table table marks (Stops (three 16 k v))
+            takes-16 e rest = run-held t past (shown t table) k i rest usable unbarred (sym told ∙ e) ∙ (rw (var-is ready i there tells var))
 
-            shown-set : shown t (set table v p) ≡ set (shown t table) v p
-            shown-set = take-set-lt (length (t .counts)) table v p (var-small ready i there tells var post)
+            shown-set : shown t (set table v (act .post)) ≡ set (shown t table) v (act .post)
+            shown-set = take-set-lt (length (t .counts)) table v (act .post) (var-small ready i there tells var)
 
-            stage-more : Stage t (shown t table ∷ past) (set table v p) (set marks (16 * v + p) 1)
-            stage-more =
-                record {
-                  long = length-set table v p ∙ stage .long;
-                  marked =
-                      rw shown-set
-                      (marked-more (stage .marked) v p (var-small ready i there tells var post) (ready .lawful .few-variables)
-                      (omega (arith, length-take-le (length (t .counts)) table (omega (arith, stage .long, ready .lawful .few-variables))))
-                      (post-small ready i there tells var post));
-                }
+            -- a word that marks its value besides
+            module _ (word : ℕ) (put : (j : ℕ) → bit word j ≡ (eqb (act .post) j || bit (getD marks v 0) j)) where
+              stage-more : Stage t (shown t table ∷ past) (set table v (act .post)) (set marks v word)
+              stage-more =
+                  record {
+                    long = length-set table v (act .post) ∙ stage .long;
+                    marked =
+                        rw shown-set
+                        (marked-more (stage .marked) v (act .post) word (var-small ready i there tells var) (ready .lawful .few-variables)
+                        (omega (arith, length-take-le (length (t .counts)) table (omega (arith, stage .long, ready .lawful .few-variables))))
+                        put);
+                  }
 
-            pub takes-on : getD marks (16 * v + p) 0 ≡ 0 → Takes t past k i table (set table v (act .post)) (set marks (16 * v + p) 1) On
-            takes-on e =
-                rw (← post) (
-                  λ rest.
-                      run-step t past (shown t table) k i rest usable unbarred (not-true _ (sym told ∙ eq-eqb _ 0 e))
-                      ∙ (rw (shown-set, var-is ready i there tells var post, post-is ready i there tells var post)),
-                  stage-more,
-                )
+              pub takes-on : bit (getD marks v 0) (act .post) ≡ false → Takes t past k i table (set table v (act .post)) (set marks v word) On
+              takes-on e = (
+                λ rest.
+                    run-step t past (shown t table) k i rest usable unbarred (sym told ∙ e)
+                    ∙ (rw (shown-set, var-is ready i there tells var, tells .post)),
+                stage-more,
+              )

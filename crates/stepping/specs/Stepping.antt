@@ -1,11 +1,10 @@
 -- How the state and the marks answer to the steps of a run.
 -- Assumes nothing.
-use Prim.Native.Nat.{ℕ, _+_, _*_, _≤_, _<_}
+use Prim.Native.Nat.{ℕ, _+_, _≤_, _<_}
 use mathlib.Core.Path.{_≡_}
-use mathlib.Core.Bool.{not}
 use mathlib.Core.List.{List, [], _∷_}
-use lib.Dec.{eqb}
 use lib.ListN.{length, getD}
+use Rattle.bits.specs.Bits.{bit}
 use Rattle.study.specs.Study.{Study}
 use Rattle.plans.specs.Plans.{State}
 use Rattle.runs.specs.Run.{stops, held, away, atGoal, runOn}
@@ -13,19 +12,15 @@ use Rattle.barring.specs.Telling.{shown}
 use Rattle.stepping.specs.declared.Turn.{Turn}
 use Rattle.stepping.specs.declared.Turn.the-variants.{On, Stops}
 
--- the first n variables, with values below 16, at 16 * v + q: not 0 where v has had the value q in one of the states
+-- the first n variables, with values below 16, a word for each: bit q of word v tells whether v has had the value q in one of the states
 pub record Marked (n : ℕ) (marks : List ℕ) (states : List State) : Type 0 where
-  pub long : length marks ≡ 512
-  pub tells : (v q : ℕ) → v < n → q < 16 → eqb (getD marks (16 * v + q) 0) 0 ≡ not (held states v q)
+  pub long : length marks ≡ 32
+  pub tells : (v q : ℕ) → v < n → q < 16 → bit (getD marks v 0) q ≡ held states v q
 
--- the first n variables have values below 16, so that there is a mark for each
+-- the first n variables have values below 16, so that there is a bit for each
 pub record Small (n : ℕ) (table : List ℕ) : Type 0 where
   pub few : n ≤ 32
   pub value : (v : ℕ) → v < n → getD table v 0 < 16
-
-pub record Clear (marks : List ℕ) : Type 0 where
-  pub long : length marks ≡ 512
-  pub nothing : (k : ℕ) → k < 512 → getD marks k 0 ≡ 0
 
 -- where a run stands: the present state and the marks of all states so far
 pub record Stage (t : Study) (past : List State) (table marks : List ℕ) : Type 0 where

@@ -6,7 +6,7 @@ ghost use mathlib.Core.List.{[], _∷_};
 ghost use lib.ListN.{length, take};
 ghost use Rattle.study.specs.Study.{Study};
 ghost use Rattle.barring.specs.Telling.{Ready};
-ghost use Rattle.stepping.specs.Stepping.{Clear, Marked, Small, Went};
+ghost use Rattle.stepping.specs.Stepping.{Marked, Small, Went};
 use answer::Answer;
 
 // What a step, or a list of steps, leads to.
@@ -15,14 +15,14 @@ pub enum Turn {
     Stops(Answer),
 }
 
-// Marks each variable's value as held.
-fn mark_starts(n: usize, state: &[u8; 32], held: &mut [u8; 512])
-    requires { ⌜ Small n (now state) ⌝ }
-    ensures { λ _. ⌜ (Clear (now (held .entry)) → Marked n (now (held .exit)) (take n (now (state .entry)) ∷ [])) ⌝ }
+// Marks each variable's value as held, and no other value.
+fn mark_starts(n: usize, state: &[u8; 32], held: &mut [u16; 32])
+    requires { ⌜ Small n (now state) × (length (now held) ≡ 32) ⌝ }
+    ensures { λ _. ⌜ Marked n (now (held .exit)) (take n (now (state .entry)) ∷ []) ⌝ }
 {
     let mut v = 0;
     while v < n {
-        held[16 * v + tables::wide(state[v])] = 1;
+        held[v] = marks::with(0, state[v]);
         v += 1;
     }
 }
@@ -43,7 +43,7 @@ pub fn do_steps(
         → length (now (state .entry)) ≡ 32
         → Went t (now (plan .entry)) (now (state .entry)) (now (state .exit)) r) ⌝ }
 {
-    let mut held = [0u8; 512];
+    let mut held = [0u16; 32];
     mark_starts(n, state, &mut held);
     steps::steps(file, plan, actions, acts, state, &mut held)
 }

@@ -30,7 +30,7 @@ fn take_step(
     actions: usize,
     acts: &[[u8; 6]; 256],
     state: &mut [u8; 32],
-    held: &mut [u8; 512],
+    held: &mut [u16; 32],
 ) -> Turn
     requires { ⌜ ((t : Study) × Ready (now file) actions (now acts) t) ⌝ }
     ensures { λ r. ⌜ ((t : Study) (past : List State)
@@ -50,11 +50,11 @@ fn take_step(
         return stops(15, k, want.var as u64);
     }
     let v = tables::wide(act.var);
-    let mark = 16 * v + tables::wide(act.post);
-    if held[mark] != 0 {
+    let word = held[v];
+    if marks::has(word, act.post) {
         return stops(16, k, v as u64);
     }
-    held[mark] = 1;
+    held[v] = marks::with(word, act.post);
     state[v] = act.post;
     Turn::On
 }
@@ -66,7 +66,7 @@ pub(crate) fn steps(
     actions: usize,
     acts: &[[u8; 6]; 256],
     state: &mut [u8; 32],
-    held: &mut [u8; 512],
+    held: &mut [u16; 32],
 ) -> Turn
     requires { ⌜ ((t : Study) × Ready (now file) actions (now acts) t) ⌝ }
     ensures { λ r. ⌜ ((t : Study)

@@ -36,8 +36,8 @@ mul-word c = search needs
 element-copy-out-word : tie.Need-element-copy-out-word
 element-copy-out-word c = search needs
 
-has-mark-requires : tie.Need-has-mark-requires
-has-mark-requires c κs = search needs
+has-requires : tie.Need-has-requires
+has-requires c κs = search needs
 
 returns-2 : tie.Need-returns-2
 returns-2 c =
@@ -56,12 +56,12 @@ returns-2 c =
             names = λ e. absurd (false≢true e);
             repeats = λ _ kept.
                 repeats holds h kept (sym (a .before .before .in-force .ensures) ∙ not-false _ (a .before .if1 .left))
-                (rw (same-var, same-post) at (sym (s .has-mark .ensures) ∙ c .if2 .taken));
+                (rw (same-var, same-post) at (sym (s .has .ensures) ∙ c .if2 .taken));
           },
     )
 
-with-mark-requires : tie.Need-with-mark-requires
-with-mark-requires c κs = search needs
+with-requires : tie.Need-with-requires
+with-requires c κs = search needs
 
 mul-marks : tie.Need-mul-marks
 mul-marks c = search needs
@@ -90,7 +90,7 @@ returns-3 c =
     let s = p .before .before in
     let w = s .before .before .before in
     let a = w .before in (
-      length-set {A = ℕ} (a .before .before .before .args .marks .now) (w .wide .result % 32) (p .with-mark .result) ∙ a .before .before .before .pre .1,
+      length-set {A = ℕ} (a .before .before .before .args .marks .now) (w .wide .result % 32) (p .with .result) ∙ a .before .before .before .pre .1,
       λ file situation n actions holds h long.
           let act = a .action-at .ensures in
           let this = holds .action _ h in
@@ -101,13 +101,13 @@ returns-3 c =
           record {
             names = λ _ kept.
                 let force = sym (a .before .before .in-force .ensures) ∙ not-false _ (a .before .if1 .left) in
-                let new = rw (same-var, same-post) at (sym (s .has-mark .ensures) ∙ p .before .if2 .left) in
+                let new = rw (same-var, same-post) at (sym (s .has .ensures) ∙ p .before .if2 .left) in
                 let wide = a .before .before .before .pre .1 in
                 let at = named holds h kept force long wide new {at = 16 * (w .wide .result % 32) + c .wide2 .result} (omega (arith, same-var, same-post, c .wide2 .ensures .0)) in (
                   at .0,
                   record {
                     named = at .1;
-                    noted = one-marked holds h kept force long wide new _ _ same-var (λ j. rw same-post at (p .with-mark .ensures j));
+                    noted = one-marked holds h kept force long wide new _ _ same-var (λ j. rw same-post at (p .with .ensures j));
                   },
                 );
             repeats = λ e. absurd (false≢true (sym e));
@@ -124,9 +124,9 @@ name-spec =
     wide-requires
     mul-word
     element-copy-out-word
-    has-mark-requires
+    has-requires
     returns-2
-    with-mark-requires
+    with-requires
     mul-marks
     element-write-marks
     cast-setters

@@ -2,7 +2,8 @@
 -- Assumes nothing.
 use mathlib.Core.Path.{_≡_, sym, _∙_}
 use mathlib.Core.Bool.{true}
-use Prim.Native.Nat.{_+_, _*_, _<_}
+use Prim.Native.Nat.{_<_}
+use native.Mathlib.Omega.{arith}
 use lib.Dec.{eqb}
 use lib.ListN.{getD}
 use denote.Ref.{now}
@@ -38,19 +39,19 @@ module _ (c : tie.After-action-at) where
   told r = r .action (start .args .entry) there (c .action-at .ensures)
 
 -- .. and nothing bars it
-module _ (c : tie.After-wide2) where
+module _ (c : tie.After-wide) where
   abbrev opened : tie.After-action-at
-  opened = c .before .before .before .before .before .before
+  opened = c .before .before .before .before .before
 
-  in-range : (c .before .wide .result < 32) × (16 * c .before .wide .result + c .wide2 .result < 512)
+  in-range : (c .wide .result < 32) × (opened .action-at .result .post < 16)
   in-range =
       let s = start opened in
-      mark-in-range (s .pre .1) (s .args .entry) (there opened) (told opened (s .pre .1)) (c .before .wide .ensures .0) (c .wide2 .ensures .0)
+      mark-in-range (s .pre .1) (s .args .entry) (there opened) (told opened (s .pre .1)) (c .wide .ensures .0)
 
   free :
       {t : Study} → Ready (now (start opened .args .file)) (start opened .args .actions) (now (start opened .args .acts)) t
       → Idle ≡ stanceOf (lacks (now (start opened .args .state)) (actionAt (t .actions) (start opened .args .entry)))
-  free r = sym (c .before .before .enum-told .given .1) ∙ c .before .before .before .before .barred .ensures _ (told opened r)
+  free r = sym (c .before .enum-told .given .1) ∙ c .before .before .before .barred .ensures _ (told opened r)
 
 stops-requires : tie.Need-stops-requires
 stops-requires c κs = search needs
@@ -103,43 +104,49 @@ enum-told c = search needs
 wide-requires : tie.Need-wide-requires
 wide-requires c κs = search needs
 
-mul-mark : tie.Need-mul-mark
-mul-mark c = search needs
+mul-word : tie.Need-mul-word
+mul-word c = search needs
 
-wide-requires-2 : tie.Need-wide-requires-2
-wide-requires-2 c κs = search needs
+element-copy-out-word : tie.Need-element-copy-out-word
+element-copy-out-word c = in-range c .0
 
-add-mark : tie.Need-add-mark
-add-mark c = search needs
-
-element-copy-out-if3 : tie.Need-element-copy-out-if3
-element-copy-out-if3 c = in-range c .1
+has-requires : tie.Need-has-requires
+has-requires c κs = in-range (c .before) .1
 
 stops-requires-4 : tie.Need-stops-requires-4
 stops-requires-4 c κs = search needs
 
 returns-4 : tie.Need-returns-4
 returns-4 c =
-    let w = c .before .before .before in
+    let h = c .before .before in
+    let w = h .before .before in
     let o = opened w in
     let a = start o .args in
     λ t past r s.
     rw (c .stops4 .ensures)
-    (takes-16 r s (a .k) (a .entry) (there o) (force o) (free w r) (told o r) (w .before .wide .ensures .0) (w .wide2 .ensures .0) (c .before .if3 .taken))
+    (takes-16 r s (a .k) (a .entry) (there o) (force o) (free w r) (told o r) (w .wide .ensures .0) (sym (h .has .ensures) ∙ c .before .if3 .taken))
+
+with-requires : tie.Need-with-requires
+with-requires c κs = omega (arith, in-range (c .before .before .before) .1)
+
+mul-held : tie.Need-mul-held
+mul-held c = search needs
 
 element-write-held : tie.Need-element-write-held
-element-write-held c = in-range (c .before .before) .1
+element-write-held c = in-range (c .before .before .before .before) .0
 
 element-write-state : tie.Need-element-write-state
-element-write-state c = in-range (c .before .before) .0
+element-write-state c = in-range (c .before .before .before .before) .0
 
 returns-5 : tie.Need-returns-5
 returns-5 c =
-    let w = c .before .before in
+    let h = c .before .before in
+    let w = h .before .before in
     let o = opened w in
     let a = start o .args in
     λ t past r s.
-    takes-on r s (a .k) (a .entry) (there o) (force o) (free w r) (told o r) (w .before .wide .ensures .0) (w .wide2 .ensures .0) (c .if3 .left)
+    takes-on r s (a .k) (a .entry) (there o) (force o) (free w r) (told o r) (w .wide .ensures .0) (c .with .result) (c .with .ensures)
+    (sym (h .has .ensures) ∙ c .before .if3 .left)
 
 pub take-step-spec : {M : Type 1} → statement M
 take-step-spec =
@@ -158,12 +165,13 @@ take-step-spec =
     returns-3
     enum-told
     wide-requires
-    mul-mark
-    wide-requires-2
-    add-mark
-    element-copy-out-if3
+    mul-word
+    element-copy-out-word
+    has-requires
     stops-requires-4
     returns-4
+    with-requires
+    mul-held
     element-write-held
     element-write-state
     returns-5)
