@@ -8,27 +8,15 @@ use lib.ListN.{length}
 use Rattle.study.specs.Study.{Study}
 use Rattle.lawful.proofs.Loads.{heard-lawful}
 use Rattle.plans.specs.Plans.{StraightPlan}
-use Rattle.orders.proofs.Lists.{distinct-below}
-use Rattle.orders.proofs.Members.{order-distinct}
-use Rattle.walks.specs.Walks.{OnAWalk, ComesBefore}
-use Rattle.walks.proofs.Ordered.{straight-is-order}
-use Rattle.planning.proofs.Found.{straight-equally-long, straight-usable}
+use Rattle.planning.proofs.Found.{straight-equally-long, straight-plan-short}
 use Rattle.demands.specs.Words.{LoadsFor, RoomFor}
 
 module _ (file : List ℕ) (crew : ℕ) (t : Study) (loads : LoadsFor file crew t) where
   pub straight-plans-have-equal-length : (one other : List ℕ) → StraightPlan t one → StraightPlan t other → length one ≡ length other
   straight-plans-have-equal-length one other = straight-equally-long (heard-lawful file crew t loads)
 
-  -- no action stands on a straight plan twice
   pub straight-plans-are-short : (list : List ℕ) → StraightPlan t list → length list ≤ 256
-  straight-plans-are-short list straight =
-      let lawful = heard-lawful file crew t loads in
-      omega (
-        arith,
-        distinct-below list (length (t .actions)) (order-distinct (OnAWalk t) (ComesBefore t) list (straight-is-order lawful straight))
-            (λ x h. straight-usable straight x h .there),
-        lawful .few-actions,
-      )
+  straight-plans-are-short list = straight-plan-short (heard-lawful file crew t loads)
 
   pub room-in-256-bytes : (before : List ℕ) → 256 ≤ length before → RoomFor t before
   room-in-256-bytes before long list straight = omega (arith, straight-plans-are-short list straight)

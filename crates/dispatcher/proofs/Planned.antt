@@ -16,11 +16,11 @@ use Rattle.study.proofs.Refusals.{NumberedIfHeard, heard-some, refusals-heard}
 use Rattle.lawful.proofs.Loads.{LawfulIfHeard, hearing-lawful}
 use Rattle.orders.specs.Orders.{In}
 use Rattle.planning.specs.Planning.{PlansFile, PlanAllows}
-use Rattle.planning.proofs.Found.{straight-usable}
+use Rattle.planning.proofs.Found.{straight-usable, straight-plan-short}
 use Rattle.rides.specs.Answers.{RidesAllow}
 use Rattle.journeys.specs.Planned.{Planned, no-plan, the-plan, SaidPlansTo}
 use Rattle.journeys.specs.Allowed.{JourneysAllows}
-use Rattle.journeys.proofs.Plans.{few-steps, plans-sound, answerOf, bytesAfter, LaidDown, laid-down}
+use Rattle.journeys.proofs.Plans.{plans-sound, answerOf, bytesAfter, LaidDown, laid-down}
 
 -- what a plan that was come to says of a rank list: an entry for each action, 256 steps at most, each an action
 record Known (ranks : List ℕ) (actions : ℕ) (list : List ℕ) : Type 0 where
@@ -40,7 +40,7 @@ come (says t) lawful numbered ranks (the-plan actions list) c =
     let straight = s .first-plan .straight in
     record {
       many = s .count ∙ sym (fine-is-rank-list (s .fine) .an-entry-for-each);
-      few = few-steps lawful straight;
+      few = straight-plan-short lawful straight;
       low = λ i h. omega (arith, straight-usable straight i h .there, lawful .few-actions);
     }
 

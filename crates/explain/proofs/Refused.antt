@@ -19,7 +19,7 @@ use Rattle.planning.specs.Planning.{LowestWithout, LowestOff}
 use Rattle.planning.specs.Seeded.{PlansSeeded}
 use Rattle.planning.proofs.Ways.{Barred, without, off, on-ring, short, fits, Way, at-fault, barred, planned, way-of}
 use Rattle.stages.proofs.Drawing.{drawn-fine}
-use Rattle.varied.proofs.Comes.{straight-plan-short}
+use Rattle.planning.proofs.Found.{straight-plan-short}
 use Rattle.telling.specs.Text.{refusedLine}
 use Rattle.explained.specs.Facts.{Fact, factLines}
 use Rattle.explained.specs.Refusals.{TracedFromGoal, WalkedPast}

@@ -13,13 +13,9 @@ use Rattle.ranking.specs.Ranking.{tested}
 use Rattle.ranking.specs.declared.Tested.the-variants.{Fine}
 use Rattle.study.specs.Study.{Study}
 use Rattle.lawful.specs.Lawful.{Lawful}
-use Rattle.orders.proofs.Lists.{distinct-below}
-use Rattle.orders.proofs.Members.{order-distinct}
-use Rattle.walks.specs.Walks.{OnAWalk, ComesBefore}
-use Rattle.walks.proofs.Ordered.{straight-is-order}
 use Rattle.planning.specs.Refusals.{shortBuffer}
 use Rattle.planning.specs.Planning.{FirstPlan, Plans, wrong-length, wrong-entry, no-walk, off-walk, ring, no-room, a-plan}
-use Rattle.planning.proofs.Found.{straight-usable}
+use Rattle.planning.proofs.Found.{straight-plan-short}
 use Rattle.handing.specs.Handing.{InRoom}
 
 -- a refusal, whatever the buffer; or a plan of 256 steps at most, in the front of some bytes
@@ -29,15 +25,6 @@ pub data Came (t : Study) (ranks bytes : List ℕ) : Answer → Type 0 where
       {list : List ℕ} → tested ranks (length (t .actions)) ≡ Fine → FirstPlan t ranks list → length list ≤ 256 → take (length list) bytes ≡ list
       → Came t ranks bytes (done (length list) 0)
 
-few-steps : {t : Study} {ranks list : List ℕ} → Lawful t → FirstPlan t ranks list → length list ≤ 256
-few-steps {t} {ranks} {list} lawful first =
-    omega (
-      arith,
-      distinct-below list (length (t .actions)) (order-distinct (OnAWalk t) (ComesBefore t) list (straight-is-order lawful (first .straight)))
-          (λ x h. straight-usable (first .straight) x h .there),
-      lawful .few-actions,
-    )
-
 came :
     {t : Study} {ranks bytes after : List ℕ} {r : Answer} → Lawful t → length bytes ≡ 256 → after ≡ bytes → Plans t ranks bytes r after
     → Came t ranks bytes r
@@ -46,7 +33,7 @@ came lawful long e (wrong-entry h) = no-plan (λ before. wrong-entry h) (λ z. o
 came lawful long e (no-walk fine l) = no-plan (λ before. no-walk fine l) (λ z. omega arith)
 came lawful long e (off-walk fine walks l) = no-plan (λ before. off-walk fine walks l) (λ z. omega arith)
 came lawful long e (ring fine walks met x n) = no-plan (λ before. ring fine walks met x n) (λ z. omega arith)
-came lawful long e (no-room fine p short) = absurd (omega (arith, few-steps lawful p))
+came lawful long e (no-room fine p short) = absurd (omega (arith, straight-plan-short lawful (p .straight)))
 came {bytes = bytes} lawful long e (a-plan {list = list} fine p h) =
     the-plan fine p (omega arith) (rw (← e) (take-at list (drop (length list) bytes) (length list) refl))
 

@@ -15,27 +15,12 @@ use Rattle.study.specs.Study.{Study}
 use Rattle.study.specs.Reading.{Said, says, refused, readingFor}
 use Rattle.lawful.specs.Lawful.{Lawful}
 use Rattle.lawful.proofs.Loads.{LawfulIfHeard, hearing-lawful}
-use Rattle.plans.specs.Plans.{StraightPlan}
-use Rattle.orders.proofs.Lists.{distinct-below}
-use Rattle.orders.proofs.Members.{order-distinct}
-use Rattle.walks.specs.Walks.{OnAWalk, ComesBefore}
-use Rattle.walks.proofs.Ordered.{straight-is-order}
 use Rattle.planning.specs.Planning.{FirstPlan, Plans, wrong-length as plan-wrong-length, wrong-entry as plan-wrong-entry, no-walk as plan-no-walk}
 use Rattle.planning.specs.Planning.{off-walk as plan-off-walk, ring as plan-ring, no-room as plan-no-room, a-plan as plan-a-plan, PlansFile}
 use Rattle.planning.proofs.Determined.{plans-determined}
-use Rattle.planning.proofs.Found.{straight-usable}
+use Rattle.planning.proofs.Found.{straight-plan-short}
 use Rattle.reference.proofs.Reference.{planned-file-allowed}
 use Rattle.journeys.specs.Planned.{Planned, no-plan, the-plan, PlansTo, wrong-length, wrong-entry, no-walk, off-walk, ring, a-plan, SaidPlansTo, FilePlansTo}
-
--- a straight plan has 256 steps at most, each an action of the file
-pub few-steps : {t : Study} {list : List ℕ} → Lawful t → StraightPlan t list → length list ≤ 256
-few-steps {t} {list} lawful straight =
-    omega (
-      arith,
-      distinct-below list (length (t .actions)) (order-distinct (OnAWalk t) (ComesBefore t) list (straight-is-order lawful straight))
-          (λ x h. straight-usable straight x h .there),
-      lawful .few-actions,
-    )
 
 -- ---- a refusal is no 0, and a plan is the first of a study with so many actions
 
@@ -80,7 +65,7 @@ module _ (ranks before : List ℕ) (room : 256 ≤ length before) where
   plans-laid lawful (plan-no-walk fine l) = record { planned = no-plan _; comes = no-walk fine l; answered = refl; bytes = refl }
   plans-laid lawful (plan-off-walk fine walks l) = record { planned = no-plan _; comes = off-walk fine walks l; answered = refl; bytes = refl }
   plans-laid lawful (plan-ring fine walks met x n) = record { planned = no-plan _; comes = ring fine walks met x n; answered = refl; bytes = refl }
-  plans-laid lawful (plan-no-room fine p short) = absurd (omega (arith, few-steps lawful (p .straight)))
+  plans-laid lawful (plan-no-room fine p short) = absurd (omega (arith, straight-plan-short lawful (p .straight)))
   plans-laid {t} lawful (plan-a-plan {list = list} fine p h) =
       record { planned = the-plan (length (t .actions)) list; comes = a-plan fine p; answered = refl; bytes = refl }
 
@@ -90,7 +75,7 @@ module _ (ranks before : List ℕ) (room : 256 ≤ length before) where
   laid-plans lawful (no-walk fine l) = plan-no-walk fine l
   laid-plans lawful (off-walk fine walks l) = plan-off-walk fine walks l
   laid-plans lawful (ring fine walks met x n) = plan-ring fine walks met x n
-  laid-plans lawful (a-plan fine p) = plan-a-plan fine p (omega (arith, few-steps lawful (p .straight)))
+  laid-plans lawful (a-plan fine p) = plan-a-plan fine p (omega (arith, straight-plan-short lawful (p .straight)))
 
   pub laid-down : {r : Answer} {after : List ℕ} (said : Said Study) → LawfulIfHeard said → PlansFile said ranks before r after → LaidDown said ranks before r after
   laid-down (says t) lawful p = plans-laid lawful p

@@ -19,7 +19,8 @@ use Rattle.rides.proofs.Told.{told-exactly}
 use Rattle.rides.proofs.Travelled.{at-most-twice, rides-few}
 use Rattle.journeys.specs.Planned.{Planned, no-plan, the-plan, PlansTo, wrong-length, wrong-entry, no-walk, off-walk, ring, a-plan, SaidPlansTo}
 use Rattle.journeys.specs.Allowed.{Travelled, JourneysAllows}
-use Rattle.journeys.proofs.Plans.{few-steps, plans-sound, answerOf}
+use Rattle.planning.proofs.Found.{straight-plan-short}
+use Rattle.journeys.proofs.Plans.{plans-sound, answerOf}
 
 -- two for each step at most
 pub few-journeys : (rides : List Ride) (start : ℕ) (plan : List ℕ) → length (journeysOf rides start plan) ≤ 2 * length plan
@@ -61,7 +62,7 @@ plans-not-13 lawful (wrong-entry e) = λ z. omega arith
 plans-not-13 lawful (no-walk fine l) = λ z. omega arith
 plans-not-13 lawful (off-walk fine walks l) = λ z. omega arith
 plans-not-13 lawful (ring fine walks met x n) = λ z. omega arith
-plans-not-13 lawful (a-plan fine p) = few-steps lawful (p .straight)
+plans-not-13 lawful (a-plan fine p) = straight-plan-short lawful (p .straight)
 
 said-not-13 :
     (said : Said Study) → LawfulIfHeard said → NumberedIfHeard said → (ranks : List ℕ) (p : Planned) → SaidPlansTo said ranks p → NotThirteen p

@@ -1,6 +1,7 @@
--- Straight plans are equally long and use no action out of force; taking the least rank first finds the first of them where it takes every walk action, and a ring where it is stuck.
+-- Straight plans are equally long, have 256 steps at most and use no action out of force; taking the least rank first finds the first of them where it takes every walk action, and a ring where it is stuck.
 -- Assumes nothing.
-use Prim.Native.Nat.{ℕ}
+use Prim.Native.Nat.{ℕ, _≤_}
+use native.Mathlib.Omega.{arith}
 use mathlib.Core.Path.{_≡_, sym, _∙_}
 use mathlib.Core.Bool.{false, true≢false}
 use mathlib.Core.List.{List}
@@ -10,7 +11,8 @@ use Rattle.study.specs.Study.{Study, inForce, actionAt}
 use Rattle.lawful.specs.Lawful.{Lawful}
 use Rattle.plans.specs.Plans.{Usable, startState, StraightPlan}
 use Rattle.orders.specs.Orders.{In, None, Takes, OnRing, Greedy}
-use Rattle.orders.proofs.Members.{all-taken-is-order, orders-equally-long}
+use Rattle.orders.proofs.Lists.{distinct-below}
+use Rattle.orders.proofs.Members.{all-taken-is-order, orders-equally-long, order-distinct}
 use Rattle.orders.proofs.Grown.{by-all, NoneReady, none-ready-same, greedy-so-far, greedy-so-far-takes, greedy-none-ready}
 use Rattle.orders.proofs.First.{rank-list-tells-apart, first-antisym, greedy-first}
 use Rattle.orders.proofs.Stuck.{stuck-counts, stuck-has-ring}
@@ -28,6 +30,16 @@ straight-equally-long {t} {xs} {ys} lawful p q =
 
 pub straight-usable : {t : Study} {list : List ℕ} → StraightPlan t list → (x : ℕ) → In x list → Usable t x
 straight-usable {t} {list} p = runs-usable t (startState t) list (p .plan .end) (p .plan .runs)
+
+-- no action stands on a straight plan twice
+pub straight-plan-short : {t : Study} {list : List ℕ} → Lawful t → StraightPlan t list → length list ≤ 256
+straight-plan-short {t} {list} lawful straight =
+    omega (
+      arith,
+      distinct-below list (length (t .actions)) (order-distinct (OnAWalk t) (ComesBefore t) list (straight-is-order lawful straight))
+          (λ x h. straight-usable straight x h .there),
+      lawful .few-actions,
+    )
 
 pub out-of-force-unused :
     {t : Study} {list : List ℕ} → StraightPlan t list → (x : ℕ) → inForce (t .situation) (actionAt (t .actions) x) ≡ false → In x list → ⊥

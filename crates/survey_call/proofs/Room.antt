@@ -25,7 +25,8 @@ use Rattle.lawful.proofs.Lengths.{longer-is-refused}
 use Rattle.varied.specs.Outcomes.{Outcome, planned, barred, ComesTo, Come}
 use Rattle.varied.specs.Figures.{reportOf}
 use Rattle.varied.specs.Report.{firstOutside, BySeeds, ReportsOn, ReportAllows}
-use Rattle.varied.proofs.Comes.{straight-plan-short, Yields, a-first-plan, yields}
+use Rattle.planning.proofs.Found.{straight-plan-short}
+use Rattle.varied.proofs.Comes.{Yields, a-first-plan, yields}
 use Rattle.varied.proofs.Alike.{plan-then-plans, barred-then-barred}
 use Rattle.varied.proofs.Told.{barred-report, plans-report-length}
 use Rattle.survey_call.specs.Input.{longestReport}

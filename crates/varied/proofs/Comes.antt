@@ -17,26 +17,12 @@ use Rattle.draw.specs.Draw.{drawn}
 use Rattle.draw.proofs.Drawn.{drawn-is-rank-list}
 use Rattle.study.specs.Study.{Study}
 use Rattle.lawful.specs.Lawful.{Lawful}
-use Rattle.plans.specs.Plans.{StraightPlan}
-use Rattle.orders.proofs.Lists.{entry-in, distinct-below}
-use Rattle.orders.proofs.Members.{order-distinct}
-use Rattle.walks.specs.Walks.{OnAWalk, ComesBefore}
-use Rattle.walks.proofs.Ordered.{straight-is-order}
+use Rattle.orders.proofs.Lists.{entry-in}
 use Rattle.planning.specs.Planning.{FirstPlan, Plans, no-walk, off-walk, ring, a-plan}
-use Rattle.planning.proofs.Found.{straight-usable}
+use Rattle.planning.proofs.Found.{straight-usable, straight-plan-short}
 use Rattle.planning.proofs.Ways.{Barred, without, off, on-ring, short, fits, Way, at-fault, way-of, barred-number}
 use Rattle.planning.proofs.Ways as Ways
 use Rattle.varied.specs.Outcomes.{Outcome, planned, barred, outcomeOf, anyRoom, ComesTo, Come}
-
--- no action stands on a straight plan twice
-pub straight-plan-short : {t : Study} {list : List ℕ} → Lawful t → StraightPlan t list → length list ≤ 256
-straight-plan-short {t} {list} lawful straight =
-    omega (
-      arith,
-      distinct-below list (length (t .actions)) (order-distinct (OnAWalk t) (ComesBefore t) list (straight-is-order lawful straight))
-          (λ x h. straight-usable straight x h .there),
-      lawful .few-actions,
-    )
 
 -- ---- what an answer and the buffer tell
 

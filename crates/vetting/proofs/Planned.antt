@@ -14,22 +14,16 @@ use Rattle.study.specs.Study.{Study}
 use Rattle.lawful.specs.Lawful.{Lawful}
 use Rattle.plans.specs.Plans.{StraightPlan}
 use Rattle.planning.specs.Planning.{Plans}
+use Rattle.planning.proofs.Found.{straight-plan-short}
 use Rattle.planning.proofs.Ways.{Barred, without, off, on-ring, barred-number, short, fits, Way, at-fault, barred, planned, way-of}
-use Rattle.handing.proofs.Outcomes.{few-in-all}
 use Rattle.charts.specs.Charts.{Chart}
 use Rattle.charts.specs.Answers.{Charts, no-walk, off-walk, ring}
-use Rattle.vetting.proofs.Vetting.{straight-stands}
 
 -- 10, 11, 12
 pub barred-charts : {t : Study} (c : Chart) {r : Answer} → Barred t r → Charts t c r
 barred-charts c (without l) = no-walk l
 barred-charts c (off walks l) = off-walk walks l
 barred-charts c (on-ring walks met x n) = ring walks met x n
-
-few-steps : {t : Study} {list : List ℕ} → Lawful t → StraightPlan t list → length list ≤ 256
-few-steps {list = list} lawful straight =
-    let s = straight-stands lawful straight in
-    few-in-all {list = list} lawful (record { once = s .none-twice; all = s .all-members; only = s .only-members })
 
 -- the front of the bytes is a straight plan
 pub record InFront (t : Study) (r : Answer) (bytes : List ℕ) : Type 0 where
@@ -43,7 +37,7 @@ module _
     refused : {after : List ℕ} {r : Answer} → Way t ranks before r after → r .number ≢ 0 → Barred t r
     refused (at-fault f) away = absurd (rw fine at f)
     refused (barred _ b) away = b
-    refused (planned _ p (short h)) away = absurd (omega (arith, few-steps lawful (p .straight)))
+    refused (planned _ p (short h)) away = absurd (omega (arith, straight-plan-short lawful (p .straight)))
     refused (planned _ p (fits h)) away = absurd (away refl)
 
     laid : {after : List ℕ} {r : Answer} → Way t ranks before r after → r .number ≡ 0 → InFront t r after
