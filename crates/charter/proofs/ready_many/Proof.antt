@@ -19,7 +19,7 @@ use Rattle.stages.proofs.Stages.{rowed-walks, given-moves, given-starts, given-
 use Rattle.sweeping.specs.Sweeping.{Swept}
 use Rattle.charts.specs.Answers.{no-walk, off-walk, ring}
 use Rattle.vetting.proofs.Few.{given-rising}
-use Rattle.charter.proofs.Known.{known-wishes}
+use Rattle.weighing.proofs.Known.{known-wishes}
 use borrow.Author.Needs.{needs}
 use Rattle.charter.proofs.ready_many.Statement.{statement}
 use Rattle.charter.proofs.ready_many.Tie as tie

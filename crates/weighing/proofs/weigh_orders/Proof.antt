@@ -1,12 +1,12 @@
--- `charter::weigh_orders` meets its contract: every variable has a walk, so all are entered, and every condition is on its walk.
+-- `weighing::weigh_orders` meets its contract: every variable has a walk, so all are entered, and every condition is on its walk.
 -- Assumes nothing.
 use mathlib.Core.Path.{refl}
 use Rattle.walks.proofs.Ordered.{straight-walks, straight-met}
 use Rattle.stages.proofs.Stages.{given-moves, given-starts, given-goals, given-traced}
 use Rattle.vetting.proofs.Few.{given-rising}
-use Rattle.charter.proofs.Known.{walks-rowed, known-orderable}
-use Rattle.charter.proofs.weigh_orders.Statement.{statement}
-use Rattle.charter.proofs.weigh_orders.Tie as tie
+use Rattle.weighing.proofs.Known.{walks-rowed, known-orderable}
+use Rattle.weighing.proofs.weigh_orders.Statement.{statement}
+use Rattle.weighing.proofs.weigh_orders.Tie as tie
 
 walk-all-requires : tie.Need-walk-all-requires
 walk-all-requires c κs =

@@ -1,4 +1,4 @@
--- `charter::vet` meets its contract: too many actions or pairs, an entry that may not be used, an action amiss; else the list is in order.
+-- `weighing::vet` meets its contract: too many actions or pairs, an entry that may not be used, an action amiss; else the list is in order.
 -- Assumes nothing.
 use native.Mathlib.Omega.{arith}
 use mathlib.Core.Path.{_≡_, refl}
@@ -6,11 +6,11 @@ use lib.ListN.{length}
 use denote.Ref.{now}
 use Rattle.charts.specs.Charts.{Chart, chartOf}
 use Rattle.charts.specs.Answers.{too-many-actions, too-many-pairs}
-use Rattle.charter.proofs.Known.{known-force}
+use Rattle.weighing.proofs.Known.{known-force}
 use Rattle.vetting.proofs.Vetting.{found-unusable, found-amiss, found-listed}
 use borrow.Author.Needs.{needs}
-use Rattle.charter.proofs.vet.Statement.{statement}
-use Rattle.charter.proofs.vet.Tie as tie
+use Rattle.weighing.proofs.vet.Statement.{statement}
+use Rattle.weighing.proofs.vet.Tie as tie
 
 -- what is known once the pairs are counted
 module _ (m : tie.After-many-pairs) where

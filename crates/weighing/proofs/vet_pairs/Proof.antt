@@ -1,4 +1,4 @@
--- `charter::vet_pairs` meets its contract: a pair is astray or all are linked; the links form a circle or are closed; a direct order lacks or none.
+-- `weighing::vet_pairs` meets its contract: a pair is astray or all are linked; the links form a circle or are closed; a direct order lacks or none.
 -- Assumes nothing.
 use Prim.Native.Nat.{_≤_}
 use native.Mathlib.Omega.{arith}
@@ -7,11 +7,11 @@ use lib.ListN.{length}
 use denote.Ref.{now}
 use Rattle.listing.specs.Listing.{Links}
 use Rattle.charts.specs.Charts.{Chart, chartOf}
-use Rattle.charter.proofs.Fresh.{fresh-shaped, fresh-all-empty}
+use Rattle.weighing.proofs.Fresh.{fresh-shaped, fresh-all-empty}
 use Rattle.vetting.proofs.Pairing.{links-leave, linked-astray, ring-charts, closed-charts}
 use borrow.Author.Needs.{needs}
-use Rattle.charter.proofs.vet_pairs.Statement.{statement}
-use Rattle.charter.proofs.vet_pairs.Tie as tie
+use Rattle.weighing.proofs.vet_pairs.Statement.{statement}
+use Rattle.weighing.proofs.vet_pairs.Tie as tie
 
 -- what is known once the pairs are linked
 module _ (l : tie.After-link-all) where
