@@ -1,57 +1,37 @@
--- What is known once for all seeds: the walks, then what comes before what or what is wanted; and the list that a seed draws.
+-- What is known once for all seeds: the walks, then what comes before what or what is wanted.
 -- Assumes nothing.
-use mathlib.Core.Path.{_≡_, sym, ap, _∙_, subst}
+use mathlib.Core.Path.{_≡_, subst}
 use mathlib.Core.List.{List}
-use Prim.Native.Nat.{ℕ, _*_, _≤_, _<_}
+use Prim.Native.Nat.{ℕ, _*_, _≤_}
 use native.Mathlib.Nat.{le-trans, mul-le-mul-left}
 use native.Mathlib.Omega.{arith}
-use lib.ListN.{length, take, length-replicate}
-use Rattle.draw.specs.Draw.{drawn, drawLeaves}
+use lib.ListN.{length, length-replicate}
+use Rattle.draw.specs.Draw.{drawn}
 use Rattle.draw.proofs.Drawn.{drawn-is-rank-list}
-use Rattle.ranks.specs.Ranks.{RankList}
-use Rattle.ranks.proofs.Placed.{rank-list-apart}
 use Rattle.ranking.proofs.Fine.{rank-list-is-fine}
 use Rattle.study.specs.Study.{Study}
 use Rattle.tables.specs.Tables.{ActionTables}
-use Rattle.orders.proofs.Lists.{distinct-below}
 use Rattle.walks.specs.Walks.{Met}
-use Rattle.walks.proofs.Leads.{on-walk-usable}
 use Rattle.planning.specs.Planning.{LowestOff, Plans, off-walk}
 use Rattle.planning.specs.Refusals.{offWalk}
 use Rattle.tracing.specs.Facts.{Wishes}
 use Rattle.tracing.specs.Steps.{Rowed, Members}
 use Rattle.wanting.specs.Wanting.{Counts}
-use Rattle.marking.specs.Marking.{Ranked}
-use Rattle.ordering.specs.Ordering.{Ordered, Orderable}
-use Rattle.renaming.specs.Renaming.{ByAction, Below, Renamed, Reworded}
-use Rattle.renaming.proofs.Ranked.{ranked-orders}
+use Rattle.ordering.specs.Ordering.{Orderable}
+use Rattle.renaming.specs.Renaming.{ByAction}
 use Rattle.stages.specs.Whole.{Known, Orderly, WantsCounted}
 use Rattle.stages.proofs.Stages.{rowed-walks, held-wishes, held-deeds}
-use Rattle.stages.proofs.Few.{rank-below}
-use Rattle.stages.proofs.Drawing.{drawn-stands}
 use Rattle.varied.specs.Outcomes.{barred, anyRoom, ComesTo}
 use Rattle.varied.proofs.Comes.{comes-to, refusal-told}
 use Rattle.keeping.specs.declared.Extent.{Extent}
-use Rattle.varying.specs.Entered.{Entered, OrderedOnce}
+use Rattle.sampling.specs.Once.{OrderedOnce}
+use Rattle.sampling.proofs.Seeded.{actions-few, total-few}
+use Rattle.varying.specs.Entered.{Entered}
 
-module _ {total : ℕ} {t : Study} (orderly : Orderly total t) {actions : ℕ} (is : actions ≡ length (t .actions)) where
-  -- no more than there are actions are on walks
-  pub total-within : total ≤ actions
-  total-within =
-      omega (
-        arith,
-        distinct-below (orderly .list) (length (t .actions)) (orderly .members .once) (λ x h. on-walk-usable (orderly .members .only x h) .there),
-        orderly .counted,
-      )
-
-  pub actions-few : actions ≤ 256
-  actions-few = omega (arith, orderly .lawful .few-actions)
-
-  pub total-few : total ≤ 256
-  total-few = omega (arith, total-within, actions-few)
-
-  pub figures-few : actions * total ≤ 65536
-  figures-few = le-trans (mul-le-mul-left actions total-few) (omega (arith, actions-few))
+-- the rows of a report have no more figures than that
+pub figures-few :
+    {total : ℕ} {t : Study} → Orderly total t → {actions : ℕ} → actions ≡ length (t .actions) → actions * total ≤ 65536
+figures-few orderly {actions} is = le-trans (mul-le-mul-left actions (total-few orderly is)) (omega (arith, actions-few orderly is))
 
 -- ---- from the walks
 
@@ -125,41 +105,3 @@ known-entered e known steps rowed list members counted = record {
   members = members;
   counted = counted;
 }
-
--- ---- the list that a seed draws
-
-module _ (seed actions : ℕ) (low : 1 ≤ seed) (high : seed < 2147483647) (few : actions ≤ 256) (before ranks : List ℕ) (enough : actions ≤ length before)
-    (leaves : ranks ≡ drawLeaves seed actions before) where
-  pub drawn-front : take actions ranks ≡ drawn seed actions
-  drawn-front = drawn-stands seed actions low (omega arith) few before ranks enough leaves
-
-  pub front-long : actions ≡ length (take actions ranks)
-  front-long = sym (ap length drawn-front ∙ drawn-is-rank-list seed actions .an-entry-for-each)
-
-  pub front-list : RankList actions (take actions ranks)
-  front-list = rw drawn-front (drawn-is-rank-list seed actions)
-
--- few actions: their orders under a rank list
-module _ {e : Extent} {members : ℕ} {words : List ℕ} {t : Study} (once : OrderedOnce e members words t) {ranks : List ℕ} (list : RankList (e .actions) ranks) where
-  pub list-of : RankList (length (t .actions)) ranks
-  list-of = rw (once .actions) at list
-
-  pub members-below : Below (length ranks) members
-  members-below i h = omega (arith, on-walk-usable (once .by-action .only-members i h) .there, once .actions, list .an-entry-for-each)
-
-  pub ranks-low : e .actions ≤ 64 → Ranked ranks
-  ranks-low few i h = omega (arith, rank-below list i h, list .an-entry-for-each)
-
-  pub once-ordered : {ranked : ℕ} {before : List ℕ} → Renamed ranks members ranked → Reworded members words ranks before → Ordered t ranks ranked before
-  once-ordered = ranked-orders (once .by-action) (rank-list-apart list-of)
-
--- many: their counts beside a rank list
-module _
-    {file : List ℕ} {n a total : ℕ} {vars posts places manys starts steps wants : List ℕ} {t : Study}
-    (counted : WantsCounted file n a total vars posts places manys starts steps wants t) {ranks : List ℕ} (list : RankList a ranks)
-  where
-    pub counted-list : RankList (length (t .actions)) ranks
-    counted-list = rw (counted .deeds .actions) at list
-
-    pub counted-beside : WantsCounted file n (length ranks) total vars posts places manys starts steps wants t
-    counted-beside = rw (← list .an-entry-for-each) at counted

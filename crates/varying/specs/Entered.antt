@@ -1,4 +1,4 @@
--- What stays true from seed to seed: the walks are entered, and what comes before what is known.
+-- What stays true from seed to seed: the walks are entered.
 -- Assumes nothing.
 use Prim.Native.Nat.{ℕ}
 use mathlib.Core.Path.{_≡_}
@@ -11,8 +11,6 @@ use Rattle.tables.specs.Rows.{Row, startColumn, seen}
 use Rattle.walks.specs.Walks.{startOf}
 use Rattle.tracing.specs.Facts.{Tells}
 use Rattle.tracing.specs.Steps.{Rowed, Members}
-use Rattle.renaming.specs.Renaming.{ByAction}
-use Rattle.stages.specs.Whole.{Orderly, WantsCountedIn}
 use Rattle.keeping.specs.declared.Extent.{Extent}
 
 -- the tables hold a lawful study, and every variable's walk is entered in the table of steps
@@ -30,13 +28,3 @@ pub record Entered (file : List ℕ) (e : Extent) (acts : ActionTables) (starts 
 -- the same of tables in rows
 abbrev pub EnteredIn : List ℕ → Extent → List Row → List Row → List ℕ → List ℕ → Study → Type 0
 EnteredIn file e acts vars setters steps t = Entered file e (seen setters acts) (startColumn vars) steps t
-
--- few actions, once for all seeds: what comes directly before each is known by action
-pub record OrderedOnce (e : Extent) (members : ℕ) (words : List ℕ) (t : Study) : Type 0 where
-  pub actions : e .actions ≡ length (t .actions)
-  pub orderly : Orderly (e .total) t
-  pub by-action : ByAction t members words
-
--- many: the values that they want are counted
-abbrev pub CountedOnce : List ℕ → Extent → List Row → List Row → List ℕ → List ℕ → Study → Type 0
-CountedOnce file e acts vars steps wants t = WantsCountedIn file (e .vars) (e .actions) (e .total) acts vars steps wants t

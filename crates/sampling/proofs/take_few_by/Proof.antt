@@ -1,14 +1,14 @@
--- `varying::take_few_by` meets its contract: what comes before what is put under the ranks that the seed draws.
+-- `sampling::take_few_by` meets its contract: what comes before what is put under the ranks that the seed draws.
 -- Assumes nothing.
 use mathlib.Core.Path.{refl}
 use native.Mathlib.Omega.{arith}
 use lib.ListN.{replicate}
 use Rattle.plain.proofs.Lists.{all-zeros}
 use Rattle.stages.proofs.Stages.{list-apart}
-use Rattle.varying.proofs.Once.{drawn-front, front-long, front-list, list-of, members-below, ranks-low, once-ordered}
+use Rattle.sampling.proofs.Seeded.{drawn-front, front-long, front-list, list-of, members-below, ranks-low, once-ordered}
 use borrow.Author.Needs.{needs}
-use Rattle.varying.proofs.take_few_by.Statement.{statement}
-use Rattle.varying.proofs.take_few_by.Tie as tie
+use Rattle.sampling.proofs.take_few_by.Statement.{statement}
+use Rattle.sampling.proofs.take_few_by.Tie as tie
 
 slice-aggregate-draw : tie.Need-slice-aggregate-draw
 slice-aggregate-draw c = search needs

@@ -1,14 +1,14 @@
--- `varying::count_few` meets its contract: the plans are kept apart, counted, and tallied into the rows.
+-- `sampling::count_few` meets its contract: the plans are kept apart, counted, and tallied into the rows.
 -- Assumes nothing.
 use Prim.Native.Nat.{ℕ}
 use native.Mathlib.Omega.{arith}
 use lib.ListN.{length-replicate}
-use Rattle.varying.proofs.Once.{total-within}
+use Rattle.sampling.proofs.Seeded.{total-within}
 use Rattle.keeping.proofs.Alike.{as-many-plans, actions-kept}
 use Rattle.keeping.proofs.Writing.{figures-apart}
 use borrow.Author.Needs.{needs}
-use Rattle.varying.proofs.count_few.Statement.{statement}
-use Rattle.varying.proofs.count_few.Tie as tie
+use Rattle.sampling.proofs.count_few.Statement.{statement}
+use Rattle.sampling.proofs.count_few.Tie as tie
 
 slice-aggregate-keep-few : tie.Need-slice-aggregate-keep-few
 slice-aggregate-keep-few c = search needs

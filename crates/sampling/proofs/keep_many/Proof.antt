@@ -1,17 +1,17 @@
--- `varying::keep_many` meets its contract: the first seed gives a plan, so each does, and each is kept in the rows.
+-- `sampling::keep_many` meets its contract: the first seed gives a plan, so each does, and each is kept in the rows.
 -- Assumes nothing.
 use mathlib.Core.Path.{_≡_, refl, _∙_}
 use Prim.Native.Nat.{_+_, _*_, _-_, _≤_}
 use native.Mathlib.Omega.{arith}
 use lib.ListN.{length, drop}
 use Rattle.study.specs.Study.{Study}
-use Rattle.varying.specs.Entered.{CountedOnce}
+use Rattle.sampling.specs.Once.{CountedOnce}
 use Rattle.keeping.specs.Seeds.{FirstTaken, KeptAll}
-use Rattle.varying.proofs.Once.{total-few}
+use Rattle.sampling.proofs.Seeded.{total-few}
 use Rattle.keeping.proofs.Alike.{plan-long, later-comes, first-kept, one-more-kept}
 use borrow.Author.Needs.{needs}
-use Rattle.varying.proofs.keep_many.Statement.{statement}
-use Rattle.varying.proofs.keep_many.Tie as tie
+use Rattle.sampling.proofs.keep_many.Statement.{statement}
+use Rattle.sampling.proofs.keep_many.Tie as tie
 
 abbrev Inv-loop : tie.InvT-loop
 Inv-loop file e acts vars steps wants room₀ report₀ k₀ room report k =

@@ -1,10 +1,10 @@
--- `varying::take_many_by` meets its contract: the counts are a copy, and the list that the seed draws stands in the front of the ranks.
+-- `sampling::take_many_by` meets its contract: the counts are a copy, and the list that the seed draws stands in the front of the ranks.
 -- Assumes nothing.
 use lib.ListN.{replicate}
-use Rattle.varying.proofs.Once.{actions-few, drawn-front, front-long, front-list, counted-list, counted-beside}
+use Rattle.sampling.proofs.Seeded.{actions-few, drawn-front, front-long, front-list, counted-list, counted-beside}
 use borrow.Author.Needs.{needs}
-use Rattle.varying.proofs.take_many_by.Statement.{statement}
-use Rattle.varying.proofs.take_many_by.Tie as tie
+use Rattle.sampling.proofs.take_many_by.Statement.{statement}
+use Rattle.sampling.proofs.take_many_by.Tie as tie
 
 slice-aggregate-draw : tie.Need-slice-aggregate-draw
 slice-aggregate-draw c = search needs

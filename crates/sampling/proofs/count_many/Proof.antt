@@ -1,11 +1,11 @@
--- `varying::count_many` meets its contract: the plans are kept in the rows, counted, and tallied there.
+-- `sampling::count_many` meets its contract: the plans are kept in the rows, counted, and tallied there.
 -- Assumes nothing.
 use native.Mathlib.Omega.{arith}
 use Rattle.keeping.proofs.Alike.{as-many-plans, actions-kept, headed-kept}
 use Rattle.keeping.proofs.Writing.{figures-in-place}
 use borrow.Author.Needs.{needs}
-use Rattle.varying.proofs.count_many.Statement.{statement}
-use Rattle.varying.proofs.count_many.Tie as tie
+use Rattle.sampling.proofs.count_many.Statement.{statement}
+use Rattle.sampling.proofs.count_many.Tie as tie
 
 keep-many-requires : tie.Need-keep-many-requires
 keep-many-requires c κs =
