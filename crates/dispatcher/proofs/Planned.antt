@@ -1,6 +1,6 @@
 -- What planning left in a room: a refusal that is the answer, or the plan from 256 on, whose journeys are then the answer.
 -- Assumes nothing.
-use Prim.Native.Nat.{ℕ, _+_, _≤_, _<_}
+use Prim.Native.Nat.{ℕ, _≤_, _<_}
 use native.Mathlib.Omega.{arith}
 use mathlib.Core.Path.{_≡_, refl, sym, ap, _∙_}
 use mathlib.Core.Logic.{_≢_}
@@ -45,10 +45,9 @@ come (says t) lawful numbered ranks (the-plan actions list) c =
     }
 
 -- the plan stands in the room from 256 on, and what its journeys answer is the answer
-pub record Standing (file : List ℕ) (crew : ℕ) (ranks : List ℕ) (r : Answer) (room : List ℕ) : Type 0 where
+pub record InPlace (file : List ℕ) (crew : ℕ) (ranks : List ℕ) (r : Answer) (room : List ℕ) : Type 0 where
+  pub long : length room ≡ 512
   pub few : r .first ≤ 256
-  pub there : 256 + r .first ≤ length room
-  pub long : length (take (r .first) (drop 256 room)) ≡ r .first
   pub low : (i : ℕ) → In i (take (r .first) (drop 256 room)) → i < 256
   pub travels :
       (rides : List ℕ) (start : ℕ) (before : List ℕ) (answer : Answer) (after : List ℕ)
@@ -89,21 +88,20 @@ module _
         go (the-plan actions list) c e = absurd (away (ap (λ (a : Answer). a .number) e))
 
     -- a plan
-    pub standing : r .number ≡ 0 → Standing file crew ranks r room
-    standing z = go (laid .planned) (laid .comes) come-to (laid .answered) (laid .bytes)
+    pub in-place : r .number ≡ 0 → InPlace file crew ranks r room
+    in-place z = go (laid .planned) (laid .comes) come-to (laid .answered) (laid .bytes)
       where
         go :
             (p : Planned) → SaidPlansTo (readingFor file crew) ranks p → Come ranks p → r ≡ answerOf p → drop 256 room ≡ bytesAfter p (drop 256 room)
-            → Standing file crew ranks r room
+            → InPlace file crew ranks r room
         go (no-plan s) c away e f = absurd (away (ap (λ (a : Answer). a .number) (sym e) ∙ z))
         go (the-plan actions list) c known e f =
             let first : r .first ≡ length list = ap (λ (a : Answer). a .first) e in
             let front : take (r .first) (drop 256 room) ≡ list =
             ap (take (r .first)) f ∙ take-at list (drop (length list) (drop 256 room)) (r .first) (sym first) in
             record {
+              long = whole z;
               few = omega (arith, first, known .few);
-              there = omega (arith, first, known .few, whole z);
-              long = ap (length {A = ℕ}) front ∙ sym first;
               low = λ i h. known .low i (rw front at h);
               travels = λ rides start before answer after allows.
                   record { planned = the-plan actions list; comes = c; travelled = rw (known .many, ← front) allows };

@@ -52,5 +52,5 @@ pub fn journeys(
         return planned;
     }
     let steps = planned.first as usize;
-    riding::ride(&room[256..256 + steps], ranks.len(), rides, start, journeys)
+    riding::ride(&mut room, steps, ranks.len(), rides, start, journeys)
 }

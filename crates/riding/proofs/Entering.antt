@@ -11,7 +11,7 @@ use native.Mathlib.Omega.{arith}
 use native.Mathlib.Decide.{ℕ-discrete}
 use lib.Dec.{eqb, leb}
 use lib.ListN.{length, getD, drop, set, length-set, length-drop, drop-of-length-le}
-use lib.Seq.{drop-cons, getD-set-same, getD-set-other}
+use lib.Seq.{drop-cons, drop-set-lt, getD-set-same, getD-set-other}
 use borrow.Author.Tests.{eqb-true, eq-eqb, ne-eqb, leb-true, not-false}
 use Rattle.plain.specs.Choose.{pick}
 use Rattle.answer.specs.Answers.{refusal}
@@ -30,9 +30,10 @@ given-none : (o : Option Ride) → given o none ≡ o
 given-none none = refl
 given-none (some r) = refl
 
--- the rides from byte `at` on are left, the first of them ride k
-pub record EnteredSoFar (rides : List ℕ) (actions : ℕ) (froms tos : List ℕ) (at k : ℕ) : Type 0 where
+-- the rides from byte `at` on are left, the first of them ride k; the room's second half is as it was
+pub record EnteredSoFar (rides : List ℕ) (actions : ℕ) (room froms tos : List ℕ) (at k : ℕ) : Type 0 where
   pub sized : Sized froms tos
+  pub kept : drop 256 tos ≡ drop 256 room
   pub few : at ≤ length rides
   pub counted : at ≡ 3 * k
   pub earlier : List ℕ
@@ -40,10 +41,11 @@ pub record EnteredSoFar (rides : List ℕ) (actions : ℕ) (froms tos : List ℕ
   pub left : faultFrom actions (cutShort (drop at rides)) earlier k (ridesOf (drop at rides)) ≡ rideFault actions rides
   pub rest : (i : ℕ) → i < 256 → given (rideIn froms tos i) (rideOf (ridesOf (drop at rides)) i) ≡ rideOf (ridesOf rides) i
 
-pub none-entered : {rides : List ℕ} {actions : ℕ} {froms tos : List ℕ} → Fresh froms tos → EnteredSoFar rides actions froms tos 0 0
+pub none-entered : {rides : List ℕ} {actions : ℕ} {froms tos : List ℕ} → Fresh froms tos → EnteredSoFar rides actions tos froms tos 0 0
 unfolding among rideIn
 none-entered {rides} f = record {
   sized = f .sized;
+  kept = refl;
   few = omega arith;
   counted = refl;
   earlier = [];
@@ -100,7 +102,7 @@ right actions again r = there (leb actions (r .action))
     there true e = absurd (omega arith)
     there false e = floors (isFloor (r .from)) (isFloor (r .to)) refl e
 
-module _ {rides : List ℕ} {actions : ℕ} {froms tos : List ℕ} {at k : ℕ} (so-far : EnteredSoFar rides actions froms tos at k) where
+module _ {rides : List ℕ} {actions : ℕ} {room froms tos : List ℕ} {at k : ℕ} (so-far : EnteredSoFar rides actions room froms tos at k) where
   pub ends-cut : at < length rides → length rides - at < 3 → rideFault actions rides ≡ some (refusal 1 k)
   unfolding faultFrom
   ends-cut more few =
@@ -187,13 +189,14 @@ module _ {rides : List ℕ} {actions : ℕ} {froms tos : List ℕ} {at k : ℕ} 
       rest-then i h (yes e) = rw (e, new-ride) (rw (e, old-none, eq-eqb action action refl) at (rest-here i h))
       rest-then i h (no d) = rw (same-ride i d) (rw (ne-eqb action i (λ e. d (sym e))) at (rest-here i h))
 
-      pub one-entered : EnteredSoFar rides actions froms-then tos-then (at + 3) (k + 1)
+      pub one-entered : EnteredSoFar rides actions room froms-then tos-then (at + 3) (k + 1)
       unfolding among
       one-entered = record {
         sized = record {
           froms-long = length-set froms action (getD rides (at + 1) 0) ∙ so-far .sized .froms-long;
           tos-long = length-set tos action (getD rides (at + 2) 0) ∙ so-far .sized .tos-long;
         };
+        kept = drop-set-lt 256 tos action (getD rides (at + 2) 0) low ∙ so-far .kept;
         few = whole;
         counted = omega (arith, so-far .counted);
         earlier = action ∷ so-far .earlier;

@@ -4,9 +4,9 @@ use mathlib.Core.Path.{_≡_, refl, sym, ap, _∙_}
 use mathlib.Core.Logic.{_≢_}
 use mathlib.Core.Option.{Option, none, some}
 use mathlib.Core.List.{List}
-use Prim.Native.Nat.{ℕ, _+_, _*_, _/_, _≤_, _<_}
+use Prim.Native.Nat.{ℕ, _+_, _-_, _*_, _/_, _≤_, _<_}
 use native.Mathlib.Omega.{arith}
-use lib.ListN.{length, replicate, length-replicate, getD-replicate}
+use lib.ListN.{length, take, drop, replicate, length-replicate, getD-replicate}
 use Rattle.answer.specs.Answers.{three}
 use Rattle.answer.specs.declared.Answer.{Answer}
 use Rattle.orders.specs.Orders.{In}
@@ -38,11 +38,15 @@ fits-laid journeys before after many r e h is p =
 
 -- ---- tables as they are lent
 
-pub fresh : Fresh (replicate 256 noFloor) (replicate 256 0)
-fresh = record {
-  sized = record { froms-long = length-replicate 256 noFloor; tos-long = length-replicate {A = ℕ} 256 0 };
+pub fresh : {room : List ℕ} → length room ≡ 512 → Fresh (replicate 256 noFloor) room
+fresh long = record {
+  sized = record { froms-long = length-replicate 256 noFloor; tos-long = long };
   none-given = λ i h. getD-replicate 256 i noFloor 0 h;
 }
+
+-- the plan is left where it stood
+pub plan-kept : (steps : ℕ) (before after : List ℕ) → drop 256 after ≡ drop 256 before → take (256 + steps - 256) (drop 256 after) ≡ take steps (drop 256 before)
+plan-kept steps before after kept = rw (kept, let n : 256 + steps - 256 ≡ steps = omega arith in n)
 
 -- ---- the rides
 

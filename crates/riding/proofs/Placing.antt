@@ -2,19 +2,18 @@
 -- Assumes nothing.
 use mathlib.Core.Path.{_≡_, refl, sym, ap, _∙_}
 use mathlib.Core.Logic.{_≢_}
+use mathlib.Core.Option.{some}
 use mathlib.Core.List.{List, [], _∷_, _++_, append-assoc}
 use Prim.Native.Nat.{ℕ, suc, _+_, _≤_, _<_}
 use native.Mathlib.Numerals.{add-one}
 use native.Mathlib.Omega.{arith}
-use lib.ListN.{length, getD, take, drop, set, length-append, take-append-drop}
+use lib.ListN.{length, getD, take, drop, set, length-append}
 use lib.Seq.{sets-eq, take-at, drop-drop, drop-append-add, length-take-le}
-use Rattle.rides.specs.Journeys.{Journey, stepMakes, floorAfter, journeysFrom, bytesOf}
+use Rattle.rides.specs.Rides.{ride}
+use Rattle.rides.specs.Journeys.{Journey, stepMakes, journeysFrom, bytesOf}
 use Rattle.rides.proofs.Bytes.{bytes-append}
-use Rattle.riding.specs.Tables.{noFloor, rideBy, rideIn, Placed}
-use Rattle.riding.proofs.Steps.{makes-none, makes-one, makes-two, same-makes, next-step, none-left}
-
-pub none-placed : (before : List ℕ) (at : ℕ) → Placed before at [] before
-none-placed before at = sym (rw (let e : at + 0 ≡ at = omega arith in e) (take-append-drop at before))
+use Rattle.riding.specs.Tables.{noFloor, rideIn, Placed}
+use Rattle.riding.proofs.Steps.{makes-one, makes-two, same-makes, next-passed, next-ridden, none-left}
 
 pub three-placed :
     (before : List ℕ) (at a b c : ℕ) → at + 3 ≤ length before → Placed before at (a ∷ b ∷ c ∷ []) (set (set (set before at a) (at + 1) b) (at + 2) c)
@@ -49,40 +48,33 @@ placed-twice before mid after at xs ys room p q =
 
 module _ (i from to step floor : ℕ) where
   abbrev its : List ℕ
-  its = bytesOf (stepMakes step floor (rideBy i from to))
+  its = bytesOf (stepMakes step floor (some (ride i from to)))
 
-  bytes-none : from ≡ noFloor → its ≡ []
+  bytes-one : floor ≡ from → its ≡ step ∷ from ∷ to ∷ []
   unfolding bytesOf
-  bytes-none e = ap bytesOf (makes-none i from to step floor e)
+  bytes-one e = ap bytesOf (makes-one i from to step floor e)
 
-  bytes-one : from ≢ noFloor → floor ≡ from → its ≡ step ∷ from ∷ to ∷ []
+  bytes-two : floor ≢ from → its ≡ step ∷ floor ∷ from ∷ step ∷ from ∷ to ∷ []
   unfolding bytesOf
-  bytes-one d e = ap bytesOf (makes-one i from to step floor d e)
-
-  bytes-two : from ≢ noFloor → floor ≢ from → its ≡ step ∷ floor ∷ from ∷ step ∷ from ∷ to ∷ []
-  unfolding bytesOf
-  bytes-two d n = ap bytesOf (makes-two i from to step floor d n)
+  bytes-two n = ap bytesOf (makes-two i from to step floor n)
 
   module _ (before : List ℕ) (at : ℕ) where
-    pub step-none : from ≡ noFloor → (at ≡ at + length its) × Placed before at its before
-    step-none e = rw (bytes-none e) (omega arith, none-placed before at)
+    pub room-one : at + length its ≤ length before → floor ≡ from → at + 3 ≤ length before
+    room-one h e = omega (arith, h, ap (length {A = ℕ}) (bytes-one e))
 
-    pub room-one : at + length its ≤ length before → from ≢ noFloor → floor ≡ from → at + 3 ≤ length before
-    room-one h d e = omega (arith, h, ap (length {A = ℕ}) (bytes-one d e))
-
-    pub room-two : at + length its ≤ length before → from ≢ noFloor → floor ≢ from → at + 6 ≤ length before
-    room-two h d n = omega (arith, h, ap (length {A = ℕ}) (bytes-two d n))
+    pub room-two : at + length its ≤ length before → floor ≢ from → at + 6 ≤ length before
+    room-two h n = omega (arith, h, ap (length {A = ℕ}) (bytes-two n))
 
     pub step-one :
-        {r : ℕ} {after : List ℕ} → from ≢ noFloor → floor ≡ from → (r ≡ at + 3) × Placed before at (step ∷ from ∷ to ∷ []) after
+        {r : ℕ} {after : List ℕ} → floor ≡ from → (r ≡ at + 3) × Placed before at (step ∷ from ∷ to ∷ []) after
         → (r ≡ at + length its) × Placed before at its after
-    step-one d e p = rw (bytes-one d e) p
+    step-one e p = rw (bytes-one e) p
 
     pub step-two :
-        {next r : ℕ} {mid after : List ℕ} → from ≢ noFloor → floor ≢ from → at + 6 ≤ length before → (next ≡ at + 3) × Placed before at (step ∷ floor ∷ from ∷ []) mid
+        {next r : ℕ} {mid after : List ℕ} → floor ≢ from → at + 6 ≤ length before → (next ≡ at + 3) × Placed before at (step ∷ floor ∷ from ∷ []) mid
         → (r ≡ next + 3) × Placed mid next (step ∷ from ∷ to ∷ []) after → (r ≡ at + length its) × Placed before at its after
-    step-two {next} {r} {mid} {after} d n room (e, p) (f, q) =
-        rw (bytes-two d n)
+    step-two {next} {r} {mid} {after} n room (e, p) (f, q) =
+        rw (bytes-two n)
         (omega (arith, e, f), placed-twice before mid after at (step ∷ floor ∷ from ∷ []) (step ∷ from ∷ to ∷ []) (omega arith) p (rw e at q))
 
 -- ---- step after step
@@ -103,53 +95,62 @@ none-written {before = before} = record { few = omega arith; made = []; left = r
 module _ {plan froms tos : List ℕ} {start : ℕ} {before bytes : List ℕ} {floor at k : ℕ} (w : WrittenSoFar plan froms tos start before bytes floor at k)
     (room : length (bytesOf (journeysFrom (rideIn froms tos) 0 start plan)) ≤ length before) where
   module _ (h : k < length plan) {i : ℕ} (is : i ≡ getD plan k 0) where
-    abbrev here : List Journey
-    here = stepMakes k floor (rideBy i (getD froms i 0) (getD tos i 0))
-
-    abbrev rest : List Journey
-    rest = journeysFrom (rideIn froms tos) (k + 1) (floorAfter floor (rideBy i (getD froms i 0) (getD tos i 0))) (drop (k + 1) plan)
-
-    split : (w .made ++ here) ++ rest ≡ journeysFrom (rideIn froms tos) 0 start plan
-    unfolding rideIn
-    split =
-        append-assoc (w .made) here rest
-        ∙ ap (λ (l : List Journey). w .made ++ l) (sym (next-step (rideIn froms tos) plan k floor i h is))
-        ∙ w .left
-
-    fits : length (bytesOf (w .made)) + length (bytesOf here) ≤ length before
-    fits =
-        omega (
-          arith,
-          room,
-          ap (λ (l : List Journey). length (bytesOf l)) split,
-          ap (length {A = ℕ}) (bytes-append (w .made ++ here) rest),
-          length-append (bytesOf (w .made ++ here)) (bytesOf rest),
-          ap (length {A = ℕ}) (bytes-append (w .made) here),
-          length-append (bytesOf (w .made)) (bytesOf here),
-        )
-
-    room-here : at + length (bytesOf here) ≤ length bytes
-    room-here = omega (arith, fits, w .ends, w .long)
-
-    -- the action's number stands in no journey
-    pub room-any : (j : ℕ) → at + length (bytesOf (stepMakes k floor (rideBy j (getD froms i 0) (getD tos i 0)))) ≤ length bytes
-    room-any j = rw (same-makes k floor (getD froms i 0) (getD tos i 0) j i) room-here
-
-    pub one-written :
-        {then : List ℕ} {at-then next : ℕ} → at-then ≡ at + length (bytesOf here) → Placed bytes at (bytesOf here) then → length then ≡ length bytes
-        → next ≡ floorAfter floor (rideBy i (getD froms i 0) (getD tos i 0))
-        → WrittenSoFar plan froms tos start before then next at-then (k + 1)
-    one-written {then} {at-then} {next} is-at p same to-floor = record {
+    pub one-passed : getD froms i 0 ≡ noFloor → WrittenSoFar plan froms tos start before bytes floor at (k + 1)
+    one-passed e = record {
       few = omega arith;
-      made = w .made ++ here;
-      left = rw to-floor split;
-      ends = omega (arith, is-at, w .ends, ap (length {A = ℕ}) (bytes-append (w .made) here), length-append (bytesOf (w .made)) (bytesOf here));
-      placed =
-          rw (bytes-append (w .made) here)
-          (placed-twice before bytes then 0 (bytesOf (w .made)) (bytesOf here) (omega (arith, fits)) (w .placed)
-          (rw (let e : 0 + length (bytesOf (w .made)) ≡ at = omega (arith, w .ends) in e) p));
-      long = same ∙ w .long;
+      made = w .made;
+      left = ap (λ (l : List Journey). w .made ++ l) (sym (next-passed froms tos plan k floor i h is e)) ∙ w .left;
+      ends = w .ends;
+      placed = w .placed;
+      long = w .long;
     }
+
+    module _ (d : getD froms i 0 ≢ noFloor) where
+      abbrev here : List Journey
+      here = stepMakes k floor (some (ride i (getD froms i 0) (getD tos i 0)))
+
+      abbrev rest : List Journey
+      rest = journeysFrom (rideIn froms tos) (k + 1) (getD tos i 0) (drop (k + 1) plan)
+
+      split : (w .made ++ here) ++ rest ≡ journeysFrom (rideIn froms tos) 0 start plan
+      split =
+          append-assoc (w .made) here rest
+          ∙ ap (λ (l : List Journey). w .made ++ l) (sym (next-ridden froms tos plan k floor i h is d))
+          ∙ w .left
+
+      fits : length (bytesOf (w .made)) + length (bytesOf here) ≤ length before
+      fits =
+          omega (
+            arith,
+            room,
+            ap (λ (l : List Journey). length (bytesOf l)) split,
+            ap (length {A = ℕ}) (bytes-append (w .made ++ here) rest),
+            length-append (bytesOf (w .made ++ here)) (bytesOf rest),
+            ap (length {A = ℕ}) (bytes-append (w .made) here),
+            length-append (bytesOf (w .made)) (bytesOf here),
+          )
+
+      room-here : at + length (bytesOf here) ≤ length bytes
+      room-here = omega (arith, fits, w .ends, w .long)
+
+      -- the action's number stands in no journey
+      pub room-any : (j : ℕ) → at + length (bytesOf (stepMakes k floor (some (ride j (getD froms i 0) (getD tos i 0))))) ≤ length bytes
+      room-any j = rw (same-makes k floor (getD froms i 0) (getD tos i 0) j i) room-here
+
+      pub one-written :
+          {then : List ℕ} {at-then : ℕ} → at-then ≡ at + length (bytesOf here) → Placed bytes at (bytesOf here) then → length then ≡ length bytes
+          → WrittenSoFar plan froms tos start before then (getD tos i 0) at-then (k + 1)
+      one-written {then} {at-then} is-at p same = record {
+        few = omega arith;
+        made = w .made ++ here;
+        left = split;
+        ends = omega (arith, is-at, w .ends, ap (length {A = ℕ}) (bytes-append (w .made) here), length-append (bytesOf (w .made)) (bytesOf here));
+        placed =
+            rw (bytes-append (w .made) here)
+            (placed-twice before bytes then 0 (bytesOf (w .made)) (bytesOf here) (omega (arith, fits)) (w .placed)
+            (rw (let e : 0 + length (bytesOf (w .made)) ≡ at = omega (arith, w .ends) in e) p));
+        long = same ∙ w .long;
+      }
 
   pub all-written : length plan ≤ k → Placed before 0 (bytesOf (journeysFrom (rideIn froms tos) 0 start plan)) bytes
   all-written h =

@@ -1,4 +1,4 @@
--- Rides in two tables by action, of the floors from and to; 255 stands where an action has none.
+-- Rides in two tables by action, of the floors from and to; 255 stands where an action has none. The floors to stand in the first half of a room.
 -- Assumes nothing.
 use Prim.Native.Nat.{ℕ, _+_, _<_}
 use mathlib.Core.Path.{_≡_}
@@ -26,7 +26,7 @@ rideIn froms tos i = rideBy i (getD froms i 0) (getD tos i 0)
 -- the tables are whole
 pub record Sized (froms tos : List ℕ) : Type 0 where
   pub froms-long : length froms ≡ 256
-  pub tos-long : length tos ≡ 256
+  pub tos-long : length tos ≡ 512
 
 -- they have no ride
 pub record Fresh (froms tos : List ℕ) : Type 0 where

@@ -1,14 +1,15 @@
 // The journeys of a plan: rides entered in tables by action, journeys counted and written. Nothing of files.
 ghost use mathlib.Core.Path.{_≡_};
 ghost use mathlib.Core.List.{[], _∷_};
+ghost use mathlib.Core.Option.{some};
 ghost use Prim.Native.Nat.{ℕ, _+_, _≤_, _<_};
-ghost use lib.ListN.{length};
+ghost use lib.ListN.{length, take, drop};
 ghost use Rattle.answer.specs.Answers.{three};
 ghost use Rattle.orders.specs.Orders.{In};
 ghost use Rattle.rides.specs.Rides.{ride, ridesOf, rideFault, wrongWith};
-ghost use Rattle.rides.specs.Journeys.{journeysFrom, stepMakes, floorAfter, bytesOf};
+ghost use Rattle.rides.specs.Journeys.{journeysFrom, stepMakes, bytesOf};
 ghost use Rattle.rides.specs.Answers.{Laid, RidesAllow};
-ghost use Rattle.riding.specs.Tables.{rideBy, rideIn, Sized, Fresh, Holds, Placed, faultTold};
+ghost use Rattle.riding.specs.Tables.{rideIn, Sized, Fresh, Holds, Placed, faultTold};
 use answer::Answer;
 
 const NO_FLOOR: u8 = 255;
@@ -45,10 +46,10 @@ fn wrong_with(actions: usize, again: bool, action: usize, from: u8, to: u8) -> u
     0
 }
 
-// Enters each ride in tables that have none, or tells the first that is at fault.
-fn enter(rides: &[u8], actions: usize, froms: &mut [u8; 256], tos: &mut [u8; 256]) -> Answer
+// Enters each ride in tables that have none, or tells the first that is at fault. Of the room only the first half is written.
+fn enter(rides: &[u8], actions: usize, froms: &mut [u8; 256], tos: &mut [u8; 512]) -> Answer
     requires { ⌜ Fresh (now froms) (now tos) ⌝ }
-    ensures { λ r. ⌜ Sized (now (froms .exit)) (now (tos .exit)) ⌝ }
+    ensures { λ r. ⌜ Sized (now (froms .exit)) (now (tos .exit)) × (drop 256 (now (tos .exit)) ≡ drop 256 (now (tos .entry))) ⌝ }
     ensures { λ r. ⌜ r ≡ faultTold (rideFault actions (now (rides .entry))) ⌝ }
     ensures { λ r. ⌜ (r .number ≡ 0 → Holds (ridesOf (now (rides .entry))) (now (froms .exit)) (now (tos .exit))) ⌝ }
 {
@@ -73,31 +74,18 @@ fn enter(rides: &[u8], actions: usize, froms: &mut [u8; 256], tos: &mut [u8; 256
     answered(0, 0)
 }
 
-// How many journeys a step makes of a person on this floor.
+// How many journeys a step with a ride makes of a person on this floor.
 fn many_made(floor: u8, from: u8) -> usize
-    ensures { λ r. ⌜ (r ≤ 2) × ((step i to : ℕ) → r ≡ length (stepMakes step floor (rideBy i from to))) ⌝ }
+    ensures { λ r. ⌜ (r ≤ 2) × ((step i to : ℕ) → r ≡ length (stepMakes step floor (some (ride i from to)))) ⌝ }
 {
-    if from == NO_FLOOR {
-        return 0;
-    }
     if floor == from {
         return 1;
     }
     2
 }
 
-// The floor after a step.
-fn floor_after(floor: u8, from: u8, to: u8) -> u8
-    ensures { λ r. ⌜ ((i : ℕ) → r ≡ floorAfter floor (rideBy i from to)) ⌝ }
-{
-    if from == NO_FLOOR {
-        return floor;
-    }
-    to
-}
-
 // How many journeys the plan makes.
-fn count(plan: &[u8], froms: &[u8; 256], tos: &[u8; 256], start: u8) -> usize
+fn count(plan: &[u8], froms: &[u8; 256], tos: &[u8; 512], start: u8) -> usize
     requires { ⌜ length (now plan) ≤ 256 ⌝ }
     ensures { λ r. ⌜ (r ≤ 512) × (r ≡ length (journeysFrom (rideIn (now (froms .entry)) (now (tos .entry))) 0 start (now (plan .entry)))) ⌝ }
 {
@@ -106,8 +94,11 @@ fn count(plan: &[u8], froms: &[u8; 256], tos: &[u8; 256], start: u8) -> usize
     let mut k = 0;
     while k < plan.len() {
         let i = tables::wide(plan[k]);
-        many += many_made(floor, froms[i]);
-        floor = floor_after(floor, froms[i], tos[i]);
+        let begins = froms[i];
+        if begins != NO_FLOOR {
+            many += many_made(floor, begins);
+            floor = tos[i];
+        }
         k += 1;
     }
     many
@@ -124,15 +115,12 @@ fn put(journeys: &mut [u8], at: usize, step: u8, from: u8, to: u8) -> usize
     at + 3
 }
 
-// A step's journeys.
+// The journeys of a step with a ride.
 fn put_step(journeys: &mut [u8], at: usize, step: u8, floor: u8, from: u8, to: u8) -> usize
-    requires { ⌜ ((i : ℕ) → at + length (bytesOf (stepMakes step floor (rideBy i from to))) ≤ length (now journeys)) ⌝ }
-    ensures { λ r. ⌜ ((i : ℕ) → (r ≡ at + length (bytesOf (stepMakes step floor (rideBy i from to))))
-        × Placed (now (journeys .entry)) at (bytesOf (stepMakes step floor (rideBy i from to))) (now (journeys .exit))) ⌝ }
+    requires { ⌜ ((i : ℕ) → at + length (bytesOf (stepMakes step floor (some (ride i from to)))) ≤ length (now journeys)) ⌝ }
+    ensures { λ r. ⌜ ((i : ℕ) → (r ≡ at + length (bytesOf (stepMakes step floor (some (ride i from to)))))
+        × Placed (now (journeys .entry)) at (bytesOf (stepMakes step floor (some (ride i from to)))) (now (journeys .exit))) ⌝ }
 {
-    if from == NO_FLOOR {
-        return at;
-    }
     if floor == from {
         return put(journeys, at, step, from, to);
     }
@@ -141,7 +129,7 @@ fn put_step(journeys: &mut [u8], at: usize, step: u8, floor: u8, from: u8, to: u
 }
 
 // The plan's journeys, in front of a buffer that has room for them.
-fn write(plan: &[u8], froms: &[u8; 256], tos: &[u8; 256], start: u8, journeys: &mut [u8])
+fn write(plan: &[u8], froms: &[u8; 256], tos: &[u8; 512], start: u8, journeys: &mut [u8])
     requires { ⌜ (length (now plan) ≤ 256)
         × (length (bytesOf (journeysFrom (rideIn (now froms) (now tos)) 0 start (now plan))) ≤ length (now journeys)) ⌝ }
     ensures { λ _. ⌜ Placed (now (journeys .entry)) 0 (bytesOf (journeysFrom (rideIn (now (froms .entry)) (now (tos .entry))) 0 start (now (plan .entry))))
@@ -152,14 +140,17 @@ fn write(plan: &[u8], froms: &[u8; 256], tos: &[u8; 256], start: u8, journeys: &
     let mut k = 0;
     while k < plan.len() {
         let i = tables::wide(plan[k]);
-        at = put_step(journeys, at, k as u8, floor, froms[i], tos[i]);
-        floor = floor_after(floor, froms[i], tos[i]);
+        let from = froms[i];
+        if from != NO_FLOOR {
+            at = put_step(journeys, at, k as u8, floor, from, tos[i]);
+            floor = tos[i];
+        }
         k += 1;
     }
 }
 
 // The plan's journeys, or 13 with the bytes that they need.
-fn lay(plan: &[u8], froms: &[u8; 256], tos: &[u8; 256], start: u8, journeys: &mut [u8]) -> Answer
+fn lay(plan: &[u8], froms: &[u8; 256], tos: &[u8; 512], start: u8, journeys: &mut [u8]) -> Answer
     requires { ⌜ length (now plan) ≤ 256 ⌝ }
     ensures { λ r. ⌜ Laid (journeysFrom (rideIn (now (froms .entry)) (now (tos .entry))) 0 start (now (plan .entry))) (now (journeys .entry)) r (now (journeys .exit)) ⌝ }
 {
@@ -171,19 +162,28 @@ fn lay(plan: &[u8], froms: &[u8; 256], tos: &[u8; 256], start: u8, journeys: &mu
     answered(0, many)
 }
 
-// The journeys of a plan of a file with so many actions, or what is at fault in the rides. A refusal alters nothing.
-pub fn ride(plan: &[u8], actions: usize, rides: &[u8], start: u64, journeys: &mut [u8]) -> Answer
-    requires { ⌜ (length (now plan) ≤ 256) × ((i : ℕ) → In i (now plan) → i < 256) ⌝ }
-    ensures { λ r. ⌜ RidesAllow actions (now (rides .entry)) start (now (plan .entry)) (now (journeys .entry)) r (now (journeys .exit)) ⌝ }
+// The journeys of the plan that stands in the room from 256 on, in so many steps, of a file with so many actions; or what is at
+// fault in the rides. A refusal alters nothing but the room's first half, which takes the floors that rides go to.
+pub fn ride(
+    room: &mut [u8; 512],
+    steps: usize,
+    actions: usize,
+    rides: &[u8],
+    start: u64,
+    journeys: &mut [u8],
+) -> Answer
+    requires { ⌜ (length (now room) ≡ 512) × (steps ≤ 256) × ((i : ℕ) → In i (take steps (drop 256 (now room))) → i < 256) ⌝ }
+    ensures { λ r. ⌜ RidesAllow actions (now (rides .entry)) start (take steps (drop 256 (now (room .entry)))) (now (journeys .entry)) r (now (journeys .exit)) ⌝ }
 {
     if 199 < start {
         return answered(5, rides.len() / 3);
     }
     let mut froms = [NO_FLOOR; 256];
-    let mut tos = [0u8; 256];
-    let told = enter(rides, actions, &mut froms, &mut tos);
+    let told = enter(rides, actions, &mut froms, room);
     if told.number != 0 {
         return told;
     }
-    lay(plan, &froms, &tos, start as u8, journeys)
+    let tos: &[u8; 512] = room;
+    let whole = &tos[..];
+    lay(&whole[256..256 + steps], &froms, tos, start as u8, journeys)
 }

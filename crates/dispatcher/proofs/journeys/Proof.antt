@@ -2,10 +2,9 @@
 -- Assumes nothing.
 use mathlib.Core.Path.{_≡_}
 use mathlib.Core.List.{List}
-use Prim.Native.Nat.{ℕ, _+_, _-_}
-use native.Mathlib.Omega.{arith}
+use Prim.Native.Nat.{ℕ}
 use denote.Ref.{now}
-use Rattle.dispatcher.proofs.Planned.{Standing, refusal-travels, standing}
+use Rattle.dispatcher.proofs.Planned.{InPlace, refusal-travels, in-place}
 use borrow.Author.Needs.{needs}
 use Rattle.dispatcher.proofs.journeys.Statement.{statement}
 use Rattle.dispatcher.proofs.journeys.Tie as tie
@@ -18,14 +17,10 @@ module _ (p : tie.After-plan-aside) where
   abbrev room-of : List ℕ
   room-of = p .plan-aside .last .1 .1 .1 .0
 
-  stands : p .plan-aside .result .number ≡ 0 → Standing (now (start-of .args .file)) (start-of .args .crew) (now (start-of .args .ranks)) (p .plan-aside .result) room-of
+  stands : p .plan-aside .result .number ≡ 0 → InPlace (now (start-of .args .file)) (start-of .args .crew) (now (start-of .args .ranks)) (p .plan-aside .result) room-of
   stands =
-      standing (now (start-of .args .file)) (start-of .args .crew) (now (start-of .args .ranks)) (p .plan-aside .result) room-of
+      in-place (now (start-of .args .file)) (start-of .args .crew) (now (start-of .args .ranks)) (p .plan-aside .result) room-of
       (p .plan-aside .ensures .0) (p .plan-aside .ensures .1)
-
--- the length of the part from 256 on
-part-long : (n : ℕ) → 256 + n - 256 ≡ n
-part-long n = omega arith
 
 plan-aside-requires : tie.Need-plan-aside-requires
 plan-aside-requires c κs = search needs
@@ -37,24 +32,11 @@ returns c =
     refusal-travels (now (a .file)) (a .crew) (now (a .ranks)) (p .plan-aside .result) (room-of p) (p .plan-aside .ensures .0) (p .plan-aside .ensures .1)
     (c .if1 .taken) (now (a .rides)) (a .start) (now (a .journeys))
 
-add-ride : tie.Need-add-ride
-add-ride c = omega (arith, stands (c .before .before) (c .if1 .left) .few)
-
-sub-ride : tie.Need-sub-ride
-sub-ride c = search needs
-
-part-ride-start : tie.Need-part-ride-start
-part-ride-start c = search needs
-
-part-ride-end : tie.Need-part-ride-end
-part-ride-end c = stands (c .before .before .before) (c .before .if1 .left) .there
-
 ride-requires : tie.Need-ride-requires
 ride-requires c κs =
-    let e = c .before .before .before in
-    let p = e .before .before in
-    let s = stands p (e .if1 .left) in
-    rw (part-long (p .plan-aside .result .first)) (omega (arith, s .long, s .few), s .low)
+    let e = c .before .before in
+    let s = stands (e .before .before) (e .if1 .left) in
+    (s .long, s .few, s .low)
 
 same-length : tie.Need-same-length
 same-length c = search needs
@@ -62,11 +44,10 @@ same-length c = search needs
 returns-2 : tie.Need-returns-2
 returns-2 c =
     let r = c .before .before in
-    let e = r .before .before .before .before in
+    let e = r .before .before .before in
     let p = e .before .before in
     let a = start-of p .args in
-    stands p (e .if1 .left) .travels (now (a .rides)) (a .start) (now (a .journeys)) (r .ride .result) _
-    (rw (part-long (p .plan-aside .result .first)) at (r .ride .ensures))
+    stands p (e .if1 .left) .travels (now (a .rides)) (a .start) (now (a .journeys)) (r .ride .result) _ (r .ride .ensures)
 
 pub journeys-spec : {M : Type 1} → statement M
 journeys-spec =
@@ -74,10 +55,6 @@ journeys-spec =
     (tie.spec
     plan-aside-requires
     returns
-    add-ride
-    sub-ride
-    part-ride-start
-    part-ride-end
     ride-requires
     same-length
     returns-2)

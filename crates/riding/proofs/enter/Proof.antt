@@ -12,7 +12,7 @@ use Rattle.riding.proofs.enter.Statement.{statement}
 use Rattle.riding.proofs.enter.Tie as tie
 
 abbrev Inv-loop : tie.InvT-loop
-Inv-loop rides actions froms₀ tos₀ at₀ k₀ froms tos at k = EnteredSoFar rides actions froms tos at k
+Inv-loop rides actions froms₀ tos₀ at₀ k₀ froms tos at k = EnteredSoFar rides actions tos₀ froms tos at k
 
 abbrev μ-loop : tie.MeasureT-loop
 μ-loop rides actions froms₀ tos₀ at₀ k₀ froms tos at k = length rides - at
@@ -30,7 +30,7 @@ returns : tie.Need-returns Inv-loop μ-loop
 returns c =
     let d = c .before .before in
     let s = d .before .loop .inv in (
-      s .sized,
+      (s .sized, s .kept),
       (
         c .answered .ensures ∙ sym (ap faultTold (ends-cut s (omega arith) (omega arith))),
         λ z. absurd (omega (arith, z, ap (λ (a : Answer). a .number) (c .answered .ensures))),
@@ -69,7 +69,7 @@ returns-2 c =
     let w = c .before .before in
     let a = w .before .before .before .before in
     let s = a .before .before .before .before .loop .inv in (
-      s .sized,
+      (s .sized, s .kept),
       (
         c .answered2 .ensures
             ∙ sym (ap faultTold (ends-wrong s (omega arith) (a .wide .ensures .0) (a .wide .ensures .1) (w .wrong-with .result) (w .wrong-with .ensures) (c .before .if2 .taken))),
@@ -106,7 +106,7 @@ returns-3 : tie.Need-returns-3 Inv-loop μ-loop
 returns-3 c =
     let d = c .before in
     let s = d .before .loop .inv in
-    (s .sized, (c .answered3 .ensures ∙ sym (ap faultTold (all-passed s (d .loop-test .left))), λ z. all-hold s (d .loop-test .left)))
+    ((s .sized, s .kept), (c .answered3 .ensures ∙ sym (ap faultTold (all-passed s (d .loop-test .left))), λ z. all-hold s (d .loop-test .left)))
 
 pub enter-spec : {M : Type 1} → statement M
 enter-spec =

@@ -1,9 +1,10 @@
--- `riding::write` meets its contract: each turn puts the journeys of one step behind the others.
+-- `riding::write` meets its contract: each turn passes a step without a ride, or puts the journeys of one with a ride behind the others.
 -- Assumes nothing.
+use mathlib.Core.Logic.{inl, inr}
 use Prim.Native.Nat.{_-_}
 use lib.ListN.{length}
 use native.Mathlib.Omega.{arith}
-use Rattle.riding.proofs.Placing.{WrittenSoFar, none-written, room-any, one-written, all-written}
+use Rattle.riding.proofs.Placing.{WrittenSoFar, none-written, one-passed, room-any, one-written, all-written}
 use borrow.Author.Needs.{needs}
 use Rattle.riding.proofs.write.Statement.{statement}
 use Rattle.riding.proofs.write.Tie as tie
@@ -23,30 +24,25 @@ shared-slice-read-wide c = search needs
 wide-requires : tie.Need-wide-requires Inv-loop μ-loop
 wide-requires c κs = search needs
 
+element-copy-out-from : tie.Need-element-copy-out-from Inv-loop μ-loop
+element-copy-out-from c = search needs
+
 cast-put-step : tie.Need-cast-put-step Inv-loop μ-loop
 cast-put-step c = search needs
 
 element-copy-out-put-step : tie.Need-element-copy-out-put-step Inv-loop μ-loop
 element-copy-out-put-step c = search needs
 
-element-copy-out-put-step-2 : tie.Need-element-copy-out-put-step-2 Inv-loop μ-loop
-element-copy-out-put-step-2 c = search needs
-
 put-step-requires : tie.Need-put-step-requires Inv-loop μ-loop
 put-step-requires c κs =
-    let w = c .before .before .before in
+    let some = c .before .before in
+    let w = some .before .before in
     let d = w .before .before .before in
     let s = d .before .before .before in
-    room-any (d .loop .inv) (s .pre .1) (omega arith) (w .wide .ensures .0)
+    room-any (d .loop .inv) (s .pre .1) (omega arith) (w .wide .ensures .0) (some .if1 .taken)
 
-element-copy-out-floor-after : tie.Need-element-copy-out-floor-after Inv-loop μ-loop
-element-copy-out-floor-after c = search needs
-
-element-copy-out-floor-after-2 : tie.Need-element-copy-out-floor-after-2 Inv-loop μ-loop
-element-copy-out-floor-after-2 c = search needs
-
-floor-after-requires : tie.Need-floor-after-requires Inv-loop μ-loop
-floor-after-requires c κs = search needs
+element-copy-out-floor : tie.Need-element-copy-out-floor Inv-loop μ-loop
+element-copy-out-floor c = search needs
 
 add-k : tie.Need-add-k Inv-loop μ-loop
 add-k c = search needs
@@ -56,13 +52,17 @@ loop-less c = search needs
 
 loop-again : tie.Need-loop-again Inv-loop μ-loop
 loop-again c =
-    let p = c .before .before .before .before .before in
-    let w = p .before .before .before .before in
+    let w = c .before .before in
     let d = w .before .before .before in
     let s = d .before .before .before in
     let i = w .wide .result in
-    one-written (d .loop .inv) (s .pre .1) (omega arith) (w .wide .ensures .0) (p .put-step .ensures i .0) (p .put-step .ensures i .1) (p .put-step .kept .0)
-    (c .floor-after .ensures i)
+    elim (c .if1 .came) [
+      | inl (some, arg, arg2, put, back, known, known2, bytes, to-floor, behind) ↦
+          rw (bytes, to-floor, behind)
+          (one-written (d .loop .inv) (s .pre .1) (omega arith) (w .wide .ensures .0) (some .taken) (put .ensures i .0) (put .ensures i .1) (put .kept .0))
+      | inr (none, bytes, same-floor, same) ↦
+          rw (bytes, same-floor, same) (one-passed (d .loop .inv) (s .pre .1) (omega arith) (w .wide .ensures .0) (none .left))
+    ]
 
 same-length : tie.Need-same-length Inv-loop μ-loop
 same-length c = search needs
@@ -81,13 +81,11 @@ write-spec =
     loop-holds
     shared-slice-read-wide
     wide-requires
+    element-copy-out-from
     cast-put-step
     element-copy-out-put-step
-    element-copy-out-put-step-2
     put-step-requires
-    element-copy-out-floor-after
-    element-copy-out-floor-after-2
-    floor-after-requires
+    element-copy-out-floor
     add-k
     loop-less
     loop-again
