@@ -12,17 +12,17 @@ use judging::faults;
 // variable of the last action, the least variable that its next condition may name, how many conditions it has, and the
 // situation. The order is one that the compiler takes apart: in most others it keeps the struct in memory, and reading costs more.
 pub struct Progress {
-    pub at: usize,
-    pub vars: usize,
-    pub actions: usize,
-    pub tasks: usize,
-    pub used: u64,
-    pub last: u8,
-    pub own: u8,
     pub above: u8,
-    pub many: u8,
     pub situation: u8,
     pub crews: usize,
+    pub vars: usize,
+    pub actions: usize,
+    pub last: u8,
+    pub own: u8,
+    pub many: u8,
+    pub at: usize,
+    pub used: u64,
+    pub tasks: usize,
 }
 
 // What one record leads to.

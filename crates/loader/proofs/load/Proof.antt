@@ -1,45 +1,44 @@
--- `loader::load` meets its contract: the sections that have no fault are taken first, then each turn takes one record further down the file, and what is still to be read goes on from there.
+-- `loader::load` meets its contract: the sections that have no fault are taken first, then the end record, or whatever else comes.
 -- Assumes nothing.
-use mathlib.Core.Path.{_≡_}
+use mathlib.Core.Path.{_≡_, refl}
 use mathlib.Core.List.{List}
-use Prim.Native.Nat.{ℕ, _-_}
+use Prim.Native.Nat.{ℕ, _+_}
 use native.Mathlib.Omega.{arith}
 use lib.ListN.{length}
 use denote.Ref.{now}
+use Rattle.study.specs.Reading.{mayFollow}
+use Rattle.records.specs.Records.{recordAt}
+use Rattle.records.specs.declared.Found.the-variants.{There}
 use Rattle.tables.specs.Tables.{Tables, Sized}
-use Rattle.tables.specs.Rows.{countColumn, seenAll}
+use Rattle.tables.specs.Rows.{seenAll}
 use Rattle.standing.specs.Reads.{Safe, origin}
 use Rattle.standing.specs.Halfway.{Halfway}
-use Rattle.standing.proofs.Pass.{begins, goes-on, refuses, ends}
+use Rattle.standing.proofs.Arms.{end-verdict}
+use Rattle.standing.proofs.Pass.{begins}
 use borrow.Author.Needs.{needs}
+use borrow.Author.Tests.{eqb-true}
+use Rattle.loader.proofs.Telling.{goes-nowhere, tells-the-file}
 use Rattle.loader.proofs.load.Statement.{statement}
 use Rattle.loader.proofs.load.Tie as tie
-
-abbrev Inv-loop : tie.InvT-loop
-Inv-loop file acts₀ vars₀ setters₀ crews₀ p₀ acts vars setters crews p =
-    Safe file p (countColumn vars)
-    × (Halfway file (seenAll acts₀ vars₀ setters₀) crews₀ p₀ → Halfway file (seenAll acts vars setters) crews p)
-
-abbrev μ-loop : tie.MeasureT-loop
-μ-loop file acts₀ vars₀ setters₀ crews₀ p₀ acts vars setters crews p = length file - p .at
 
 safe-at-origin : (file counts : List ℕ) → Safe file origin counts
 safe-at-origin file counts = search needs
 
 -- where the sections have been taken: how the function was called, the tables as they were then, and as they are left
 abbrev Taken : Type 0
-Taken = tie.After-crews Inv-loop μ-loop
+Taken = tie.After-crews
 
-abbrev start : Taken → tie.Start Inv-loop μ-loop
+abbrev start : Taken → tie.Start
 start c = c .before .before .before .before .before .before .before .before .before .before
 
 abbrev lent : Taken → Tables
 lent c = seenAll (now (start c .args .acts)) (now (start c .args .vars)) (now (start c .args .setters))
 
+abbrev with-setters : Taken → List ℕ → Tables
+with-setters c = seenAll (c .before .before .before .actions .last .1 .1 .0) (c .before .before .before .before .before .before .variables .last .1 .1 .0)
+
 abbrev left : Taken → Tables
-left c =
-    seenAll (c .before .before .before .actions .last .1 .1 .0) (c .before .before .before .before .before .before .variables .last .1 .1 .0)
-    (now (start c .args .setters))
+left c = with-setters c (now (start c .args .setters))
 
 sections-read :
     (c : Taken) → Sized (lent c) → length (now (start c .args .crews)) ≡ 8
@@ -52,72 +51,68 @@ sections-read c sized eight =
     (a .actions .ensures .1 _ _
     (v .variables .ensures .1 _ _ (p .present .ensures .1 (lent c) (now (start c .args .crews)) (safe-at-origin _ _) (begins _ sized eight))))
 
-present-requires : tie.Need-present-requires Inv-loop μ-loop
+present-requires : tie.Need-present-requires
 present-requires c κs = search needs
 
-variables-requires : tie.Need-variables-requires Inv-loop μ-loop
+variables-requires : tie.Need-variables-requires
 variables-requires c κs = c .before .present .ensures .0 _ (safe-at-origin _ _) .0
 
-actions-requires : tie.Need-actions-requires Inv-loop μ-loop
+actions-requires : tie.Need-actions-requires
 actions-requires c κs = c .before .before .variables .ensures .0 .0
 
-crews-requires : tie.Need-crews-requires Inv-loop μ-loop
+crews-requires : tie.Need-crews-requires
 crews-requires c κs = c .before .before .actions .ensures .0 .0
 
-loop-holds : tie.Need-loop-holds Inv-loop μ-loop
-loop-holds c = (c .crews .ensures .0 .0, λ h. h)
+-- .. and where the end record comes next
+at-the-end : (c : tie.Then1) → recordAt (now (start (c .before .before) .args .file)) (c .before .before .crews .result .at)
+    ≡ There 6 (c .before .before .crews .result .at + 1) (c .before .before .crews .result .at + 1)
+at-the-end c = c .before .at-end .ensures (c .if1 .taken) .0
 
-step-requires : tie.Need-step-requires Inv-loop μ-loop
-step-requires c κs = c .before .before .before .before .loop .inv .0
+at-end-requires : tie.Need-at-end-requires
+at-end-requires c κs = c .crews .ensures .0 .0 .inside
 
-enum-known-taken : tie.Need-enum-known-taken Inv-loop μ-loop
-enum-known-taken c = search needs
+add-on-end : tie.Need-add-on-end
+unfolding mayFollow
+add-on-end c =
+    let b = c .before .before .crews .ensures .0 .0 .bounds in
+    let last = eqb-true (c .before .before .crews .result .last) 5 (c .before .at-end .ensures (c .if1 .taken) .1) in
+    omega (arith, b .seeded last, b .few-vars, b .few-actions, b .low, b .few-crews)
 
-loop-less : tie.Need-loop-less Inv-loop μ-loop
-loop-less c =
-    let f = rw (c .before .taken .given .1) at (c .before .before .before .step .ensures .0) in
-    omega (arith, f .0, f .1 .inside)
+on-end-requires : tie.Need-on-end-requires
+on-end-requires c κs = c .before .before .before .before .crews .ensures .0 .0 .bounds .few-actions
 
-loop-again : tie.Need-loop-again Inv-loop μ-loop
-loop-again c =
-    let i = c .before .before .before .before .before .before .before .before .loop .inv in
-    let s = rw (c .before .taken .given .1) at (c .before .before .before .step .ensures) in
-    (s .0 .1, λ h. goes-on (i .0) (i .1 h) s)
+told-requires : tie.Need-told-requires
+told-requires c κs = search needs
 
-enum-known-taken-2 : tie.Need-enum-known-taken-2 Inv-loop μ-loop
-enum-known-taken-2 c = search needs
+returns : tie.Need-returns
+returns c sized eight =
+    let e = c .before in
+    let f = e .before .before .before in
+    let k = f .before .before in
+    let safe = k .crews .ensures .0 .0 in
+    let may = f .before .at-end .ensures (f .if1 .taken) .1 in
+    rw (c .told .ensures)
+    (tells-the-file safe (sections-read k sized eight) (with-setters k (e .on-end .last .1 .1 .1 .1 .0)) _ (e .on-end .result) (goes-nowhere (e .on-end .ensures .0))
+    (e .on-end .ensures .0 _ _ _, λ d stands. rw (end-verdict _ _ _ _ (left k) _ safe (at-the-end f) may d stands) (e .on-end .ensures .1 _ _ _ _ _ d refl stands)))
 
-returns : tie.Need-returns Inv-loop μ-loop
-returns c =
-    let l = c .before .before .before .before .before .before .before .before in
-    let i = l .loop .inv in
-    λ sized eight. refuses (i .0) (i .1 (sections-read (l .before) sized eight)) (rw (c .before .taken2 .given .1) at (c .before .before .before .step .ensures))
+read-on-requires : tie.Need-read-on-requires
+read-on-requires c κs = c .before .before .before .before .before .before .crews .ensures .0 .0
 
-enum-known-taken-3 : tie.Need-enum-known-taken-3 Inv-loop μ-loop
-enum-known-taken-3 c = search needs
-
-returns-2 : tie.Need-returns-2 Inv-loop μ-loop
-returns-2 c =
-    let l = c .before .before .before .before .before .before .before .before in
-    let i = l .loop .inv in
-    λ sized eight. ends (i .0) (i .1 (sections-read (l .before) sized eight)) _ _ (c .before .taken3 .given .0 .0) (rw (c .before .taken3 .given .1) at (c .before .before .before .step .ensures))
+returns-2 : tie.Need-returns-2
+returns-2 c sized eight = c .read-on .ensures (sections-read (c .before .before .before .before .before .before .before) sized eight)
 
 pub load-spec : {M : Type 1} → statement M
 load-spec =
     tie.close
     (tie.spec
-    Inv-loop
-    μ-loop
     present-requires
     variables-requires
     actions-requires
     crews-requires
-    loop-holds
-    step-requires
-    enum-known-taken
-    loop-less
-    loop-again
-    enum-known-taken-2
+    at-end-requires
+    add-on-end
+    on-end-requires
+    told-requires
     returns
-    enum-known-taken-3
+    read-on-requires
     returns-2)
