@@ -30,12 +30,12 @@ pub enum Readied {
 }
 
 // At most so many actions and pairs.
-const MOST_ACTIONS: usize = 256;
+pub const MOST_ACTIONS: usize = 256;
 
-const MOST_PAIRS: usize = 4096;
+pub const MOST_PAIRS: usize = 4096;
 
 // No action: what `lowest_amiss` answers if none is.
-const NONE: u16 = 256;
+pub const NONE: u16 = 256;
 
 pub fn numbers(number: u64, first: usize, second: usize) -> Answer
     ensures { λ r. ⌜ r ≡ three number first second ⌝ }

@@ -12,14 +12,6 @@ use answer::Answer;
 use lacking::Lack;
 use linking::Closed;
 
-// At most so many actions and pairs.
-const MOST_ACTIONS: usize = 256;
-
-const MOST_PAIRS: usize = 4096;
-
-// No action: what `lowest_amiss` answers if none is.
-const NONE: u16 = 256;
-
 // There is a straight plan: the lowest direct order that the closed rows lack. The walks are entered only here, so that the
 // steps take the place that closing has left.
 fn weigh_orders(
@@ -95,11 +87,11 @@ pub fn vet(
         → SetOfWalks t (now (members .entry))
         → Charts t (chartOf (now (actions .entry)) (now (pairs .entry))) r) ⌝ }
 {
-    if MOST_ACTIONS < actions.len() {
+    if vetting::MOST_ACTIONS < actions.len() {
         return vetting::numbers(19, actions.len(), 0);
     }
     let many = listing::many_pairs(pairs.len());
-    if MOST_PAIRS < many {
+    if vetting::MOST_PAIRS < many {
         return vetting::numbers(19, many, 0);
     }
     let k = listing::first_unusable(actions, count, acts);
@@ -107,7 +99,7 @@ pub fn vet(
         return vetting::numbers(14, k, 0);
     }
     let low = listing::lowest_amiss(actions, members);
-    if low < NONE {
+    if low < vetting::NONE {
         return vetting::numbers(25, low as usize, 0);
     }
     vet_pairs(file, n, count, acts, vars, setters, members, actions, pairs)
