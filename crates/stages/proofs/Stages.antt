@@ -99,9 +99,6 @@ module _
         → Ensured
     given-traced ensures = ensures given-moves (given .variables) given-starts given-goals (λ v h x k. all-zeros 512 (16 * v + x))
 
-    pub few-variables : n ≤ 32
-    few-variables = omega (arith, given .variables, few-tasks (given .lawful))
-
     -- there is a rank for each action
     pub as-many-ranks : length ranks ≡ a
     as-many-ranks = fine-is-rank-list (given .ranked) .an-entry-for-each

@@ -1,11 +1,11 @@
 -- What planning with a rank list into 256 bytes comes to: what bars every plan, or a straight plan in the front of the bytes.
 -- Assumes nothing.
-use Prim.Native.Nat.{ℕ, _≤_}
+use Prim.Native.Nat.{ℕ}
 use native.Mathlib.Omega.{arith}
-use mathlib.Core.Path.{_≡_, refl, ap}
+use mathlib.Core.Path.{_≡_, refl}
 use mathlib.Core.Logic.{_≢_}
-use mathlib.Core.List.{List, _++_}
-use lib.ListN.{length, take, drop, length-append}
+use mathlib.Core.List.{List}
+use lib.ListN.{length, take, drop}
 use lib.Seq.{take-append-seam}
 use Rattle.answer.specs.declared.Answer.{Answer}
 use Rattle.ranking.specs.Ranking.{tested}
@@ -25,12 +25,6 @@ barred-charts c (without l) = no-walk l
 barred-charts c (off walks l) = off-walk walks l
 barred-charts c (on-ring walks met x n) = ring walks met x n
 
--- the front of the bytes is a straight plan
-pub record InFront (t : Study) (r : Answer) (bytes : List ℕ) : Type 0 where
-  pub there : r .first ≤ length bytes
-  pub long : length (take (r .first) bytes) ≡ r .first
-  pub straight : StraightPlan t (take (r .first) bytes)
-
 module _
     {t : Study} (lawful : Lawful t) {ranks : List ℕ} (fine : tested ranks (length (t .actions)) ≡ Fine) (before : List ℕ) (room : length before ≡ 256)
   where
@@ -40,21 +34,15 @@ module _
     refused (planned _ p (short h)) away = absurd (omega (arith, straight-plan-short lawful (p .straight)))
     refused (planned _ p (fits h)) away = absurd (away refl)
 
-    laid : {after : List ℕ} {r : Answer} → Way t ranks before r after → r .number ≡ 0 → InFront t r after
+    laid : {after : List ℕ} {r : Answer} → Way t ranks before r after → r .number ≡ 0 → StraightPlan t (take (r .first) after)
     laid (at-fault f) e = absurd (omega arith)
     laid (barred _ b) e = absurd (omega (arith, barred-number b))
     laid (planned _ p (short h)) e = absurd (omega arith)
-    laid (planned {list = list} _ p (fits h)) e =
-        let rest = drop (length list) before in
-        record {
-          there = omega (arith, length-append list rest);
-          long = ap length (take-append-seam list rest);
-          straight = rw (take-append-seam list rest) (p .straight);
-        }
+    laid (planned {list = list} _ p (fits h)) e = rw (take-append-seam list (drop (length list) before)) (p .straight)
 
     module _ {after : List ℕ} {r : Answer} (plans : Plans t ranks before r after) where
       pub refused-charts : (c : Chart) → r .number ≢ 0 → Charts t c r
       refused-charts c away = barred-charts c (refused (way-of plans) away)
 
-      pub plan-in-front : r .number ≡ 0 → InFront t r after
+      pub plan-in-front : r .number ≡ 0 → StraightPlan t (take (r .first) after)
       plan-in-front = laid (way-of plans)

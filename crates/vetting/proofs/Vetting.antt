@@ -1,25 +1,13 @@
 -- Where there is a straight plan: what is found in the list is an answer about the chart.
 -- Assumes nothing.
 use Prim.Native.Nat.{ℕ, _≤_, _<_}
-use native.Mathlib.Omega.{arith}
 use mathlib.Core.Path.{_≡_}
-use mathlib.Core.List.{List}
 use lib.ListN.{length}
 use Rattle.answer.specs.Answers.{refusal}
 use Rattle.study.specs.Study.{Study}
-use Rattle.lawful.specs.Lawful.{Lawful}
-use Rattle.plans.specs.Plans.{StraightPlan}
-use Rattle.orders.specs.Orders.{In}
-use Rattle.orders.proofs.Standing.{Standing, order-stands}
-use Rattle.walks.specs.Walks.{OnAWalk, ComesBefore}
-use Rattle.walks.proofs.Ordered.{straight-is-order}
 use Rattle.listing.specs.Listing.{FindsUnusable, FindsAmiss}
 use Rattle.charts.specs.Charts.{Chart}
 use Rattle.charts.specs.Answers.{mostActions, mostPairs, Plannable, Within, Usably, Listed, Charts, unusable, amiss}
-
--- a straight plan has the walk actions and no other
-pub straight-stands : {t : Study} {plan : List ℕ} → Lawful t → StraightPlan t plan → Standing (OnAWalk t) (ComesBefore t) plan
-straight-stands {t} {plan} lawful straight = order-stands (OnAWalk t) (ComesBefore t) plan (straight-is-order lawful straight)
 
 module _
     {t : Study} (c : Chart) (plannable : Plannable t) (few-actions : length (c .actions) ≤ mostActions)

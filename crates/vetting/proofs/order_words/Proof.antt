@@ -125,7 +125,7 @@ module _ (k : tie.After-take) where
         let laid = fits taken-of (k .take .ensures .0 .1) (k .take .ensures .0 .0) h (replicate 256 0) (all-few walking) in
         let told = ordered named-of t v walking in
         record {
-          plannable = (_, plan-in-front (walking .lawful) (walking .ranked) (replicate 256 0) refl laid refl .straight);
+          plannable = (_, plan-in-front (walking .lawful) (walking .ranked) (replicate 256 0) refl laid refl);
           actions = held .count;
           force = λ i l. held .action i l .force;
           few = all-few walking;
