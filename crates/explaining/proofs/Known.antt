@@ -7,41 +7,26 @@ use native.Mathlib.Omega.{arith}
 use lib.ListN.{length, getD}
 use Rattle.study.specs.Study.{Study}
 use Rattle.lawful.specs.Lawful.{Lawful}
-use Rattle.draw.specs.Draw.{drawn}
 use Rattle.tables.specs.Tables.{ActionTables}
-use Rattle.walks.specs.Walks.{Walk, Walks, postOf, startOf, goalOf}
+use Rattle.walks.specs.Walks.{Walk, postOf, startOf, goalOf}
 use Rattle.walks.proofs.Leads.{on-walk-usable}
 use Rattle.walks.proofs.Wanted.{wanted-there}
 use Rattle.planning.specs.Planning.{LowestOff}
-use Rattle.planning.proofs.Bars.{without-bars-walks}
 use Rattle.tracing.specs.Facts.{Tells}
-use Rattle.tracing.specs.Steps.{RowTo, Rowed, WalksAll}
-use Rattle.tracing.specs.declared.Walked.{Walked}
-use Rattle.tracing.specs.declared.Walked.the-variants.{All, NoWalk}
+use Rattle.tracing.specs.Steps.{RowTo, Rowed}
 use Rattle.tracing.proofs.Ranges.{few-tasks, goal-small}
 use Rattle.wanting.specs.Wanting.{StandAt}
-use Rattle.stages.specs.Whole.{Known, Given}
-use Rattle.stages.proofs.Drawing.{drawn-fine}
-use Rattle.stages.proofs.Stages.{known-given, given-starts, given-goals}
-
--- every variable has a walk: they are entered
-pub walks-rowed : {t : Study} {n : ℕ} {steps : List ℕ} (r : Walked) → Walks t → WalksAll t n steps r → Rowed t n steps
-walks-rowed (All total) walks w = w .0
-walks-rowed (NoWalk v b) walks w = absurd (without-bars-walks w walks)
+use Rattle.stages.specs.Whole.{Known}
 
 module _ {file : List ℕ} {n a x : ℕ} {acts : ActionTables} {starts goals : List ℕ} {t : Study} (known : Known file n a x acts starts goals t) where
-  -- with any rank list
-  pub given : Given file (drawn 1 a) n a acts starts goals t
-  given = known-given (drawn 1 a) known (drawn-fine 1 a)
-
   pub few-variables : length (t .tasks) ≤ 32
   few-variables = few-tasks (known .lawful)
 
   pub known-start : (v : ℕ) → v < length (t .tasks) → getD starts v 0 ≡ startOf t v
-  known-start v h = given-starts given v (omega (arith, known .variables))
+  known-start v h = known .tasks .start v (omega (arith, known .variables))
 
   pub known-goal : (v : ℕ) → v < length (t .tasks) → getD goals v 0 ≡ goalOf t v
-  known-goal v h = given-goals given v (omega (arith, known .variables))
+  known-goal v h = known .tasks .goal v (omega (arith, known .variables))
 
   pub known-goal-small : (v : ℕ) → v < length (t .tasks) → getD goals v 0 < 16
   known-goal-small v h = rw (known-goal v h) (goal-small (known .lawful) v h)

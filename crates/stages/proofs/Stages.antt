@@ -1,6 +1,6 @@
 -- From one stage to the next: what is known of the study in the tables that each function is lent.
 -- Assumes nothing.
-use mathlib.Core.Path.{_≡_, _∙_}
+use mathlib.Core.Path.{_≡_, refl, subst, _∙_}
 use mathlib.Core.List.{List}
 use Prim.Native.Nat.{ℕ, _+_, _*_, _≤_, _<_}
 use native.Mathlib.Omega.{arith}
@@ -17,9 +17,12 @@ use Rattle.lawful.specs.Lawful.{Lawful}
 use Rattle.tables.specs.Tables.{ActionTables, HoldsActions}
 use Rattle.planning.specs.Refusals.{offWalk}
 use Rattle.planning.specs.Planning.{Plans, LowestOff, off-walk}
+use Rattle.planning.proofs.Bars.{without-bars-walks}
 use Rattle.walks.specs.Walks.{Walks, Met, startOf, goalOf}
 use Rattle.tracing.specs.Facts.{Tells, Moves, Wishes, Deeds}
-use Rattle.tracing.specs.Steps.{EmptyRow, Rowed, Members}
+use Rattle.tracing.specs.Steps.{EmptyRow, Rowed, Members, WalksAll}
+use Rattle.tracing.specs.declared.Walked.{Walked}
+use Rattle.tracing.specs.declared.Walked.the-variants.{All, NoWalk}
 use Rattle.tracing.proofs.Ranges.{few-tasks}
 use Rattle.wanting.specs.Wanting.{Counts}
 use Rattle.taking.specs.Taking.{Prepared, TakenGreedily}
@@ -29,6 +32,11 @@ use Rattle.stages.specs.Whole.{Known, Given, Walking, Orderly, WantsCoun
 
 pub rowed-walks : {t : Study} {n : ℕ} {steps : List ℕ} → n ≡ length (t .tasks) → Rowed t n steps → Walks t
 rowed-walks e rowed v h = let r = rowed v (rw e h) in (r .0, r .1 .0)
+
+-- every variable has a walk: they are entered
+pub walks-rowed : {t : Study} {n : ℕ} {steps : List ℕ} (r : Walked) → Walks t → WalksAll t n steps r → Rowed t n steps
+walks-rowed (All total) walks w = w .0
+walks-rowed (NoWalk v b) walks w = absurd (without-bars-walks w walks)
 
 pub held-wishes :
     {file : List ℕ} {a : ℕ} {acts : ActionTables} {t : Study} → Lawful t → HoldsActions file (t .situation) a acts (t .actions)
@@ -67,52 +75,69 @@ known-given ranks known ranked =
     }
 
 module _
+    {file : List ℕ} {n a x : ℕ} {acts : ActionTables} {starts goals : List ℕ} {t : Study}
+    (known : Known file n a x acts starts goals t)
+  where
+    pub known-moves : Moves a (acts .setters) (acts .vars) (acts .pres) (acts .posts) (acts .outs) t
+    known-moves =
+        record {
+          lawful = known .lawful;
+          actions = known .actions .count;
+          tells-var = λ i h. known .actions .action i h .var;
+          tells-pre = λ i h. known .actions .action i h .pre;
+          tells-post = λ i h. known .actions .action i h .post;
+          tells-force = λ i h. known .actions .action i h .force;
+          names = known .setters;
+        }
+
+    -- what walking asks of the tables
+    pub known-walkable :
+        (u : Study) × Moves a (acts .setters) (acts .vars) (acts .pres) (acts .posts) (acts .outs) u × (n ≡ length (u .tasks))
+        × Tells startOf n starts u × Tells goalOf n goals u
+    known-walkable = (t, known-moves, known .variables, known .tasks .start, known .tasks .goal)
+
+    -- what walking into an empty table ensures
+    pub known-walked :
+        {Ensured : Type 0}
+        → (Moves a (acts .setters) (acts .vars) (acts .pres) (acts .posts) (acts .outs) t → n ≡ length (t .tasks)
+        → Tells startOf n starts t → Tells goalOf n goals t → ((v : ℕ) → v < 32 → EmptyRow v (replicate 512 0)) → Ensured)
+        → Ensured
+    known-walked ensures = ensures known-moves (known .variables) (known .tasks .start) (known .tasks .goal) (λ v h x k. all-zeros 512 (16 * v + x))
+
+module _
     {file ranks : List ℕ} {n a : ℕ} {acts : ActionTables} {starts goals : List ℕ} {t : Study}
     (given : Given file ranks n a acts starts goals t)
   where
-    pub given-moves : Moves a (acts .setters) (acts .vars) (acts .pres) (acts .posts) (acts .outs) t
-    given-moves =
+    -- what is given is known
+    pub given-known : Known file n a (t .seed) acts starts goals t
+    given-known =
         record {
           lawful = given .lawful;
-          actions = given .actions .count;
-          tells-var = λ i h. given .actions .action i h .var;
-          tells-pre = λ i h. given .actions .action i h .pre;
-          tells-post = λ i h. given .actions .action i h .post;
-          tells-force = λ i h. given .actions .action i h .force;
-          names = given .setters;
+          variables = given .variables;
+          actions = given .actions;
+          setters = given .setters;
+          tasks = given .tasks;
+          seed = refl;
         }
 
     pub given-ranked : tested ranks (length (t .actions)) ≡ Fine
     given-ranked = rw (← given .actions .count) (given .ranked)
 
-    pub given-starts : Tells startOf n starts t
-    given-starts = given .tasks .start
-
-    pub given-goals : Tells goalOf n goals t
-    given-goals = given .tasks .goal
-
-    -- what tracing into an empty table ensures
-    pub given-traced :
-        {Ensured : Type 0}
-        → (Moves a (acts .setters) (acts .vars) (acts .pres) (acts .posts) (acts .outs) t → n ≡ length (t .tasks)
-        → Tells startOf n starts t → Tells goalOf n goals t → ((v : ℕ) → v < 32 → EmptyRow v (replicate 512 0)) → Ensured)
-        → Ensured
-    given-traced ensures = ensures given-moves (given .variables) given-starts given-goals (λ v h x k. all-zeros 512 (16 * v + x))
-
     -- there is a rank for each action
     pub as-many-ranks : length ranks ≡ a
     as-many-ranks = fine-is-rank-list (given .ranked) .an-entry-for-each
 
+    -- walking came to the end
     pub given-walking :
-        (total : ℕ) (steps : List ℕ) → Rowed t n steps → (list : List ℕ) → Members t list → length list ≡ total
-        → Walking file ranks n total acts starts steps t
-    given-walking total steps rowed list members counted =
+        {r : Walked} {total : ℕ} {steps : List ℕ} → WalksAll t n steps r → r ≡ All total → Walking file ranks n total acts starts steps t
+    given-walking {steps = steps} walked e =
+        let (rowed, (list, (members, counted))) = subst (WalksAll t n steps) e walked in
         record {
           lawful = given .lawful;
           variables = given .variables;
           actions = rw as-many-ranks (given .actions);
           setters = rw as-many-ranks (given .setters);
-          tells-starts = given-starts;
+          tells-starts = given .tasks .start;
           ranked = given-ranked;
           rowed = rowed;
           list = list;

@@ -15,7 +15,8 @@ use Rattle.walks.specs.Walks.{Met}
 use Rattle.planning.specs.Planning.{LowestOff, Plans, off-walk}
 use Rattle.planning.specs.Refusals.{offWalk}
 use Rattle.tracing.specs.Facts.{Wishes}
-use Rattle.tracing.specs.Steps.{Rowed, Members}
+use Rattle.tracing.specs.Steps.{Rowed, Members, WalksAll}
+use Rattle.tracing.specs.declared.Walked.the-variants.{All}
 use Rattle.wanting.specs.Wanting.{Counts}
 use Rattle.ordering.specs.Ordering.{Orderable}
 use Rattle.renaming.specs.Renaming.{ByAction}
@@ -90,11 +91,9 @@ module _
 
 -- what is known and walked is entered
 pub known-entered :
-    {file : List ℕ} {x : ℕ} {acts : ActionTables} {starts goals : List ℕ} {t : Study} → (e : Extent)
-    → Known file (e .vars) (e .actions) x acts starts goals t
-    → (steps : List ℕ) → Rowed t (e .vars) steps → (list : List ℕ) → Members t list → length list ≡ e .total
-    → Entered file e acts starts steps t
-known-entered e known steps rowed list members counted = record {
+    {file : List ℕ} {x : ℕ} {acts : ActionTables} {starts goals steps : List ℕ} {t : Study} → (e : Extent)
+    → Known file (e .vars) (e .actions) x acts starts goals t → WalksAll t (e .vars) steps (All (e .total)) → Entered file e acts starts steps t
+known-entered e known (rowed, (list, (members, counted))) = record {
   lawful = known .lawful;
   variables = known .variables;
   actions = known .actions;

@@ -9,13 +9,11 @@ use denote.Ref.{now}
 use Rattle.plain.proofs.Lists.{all-zeros}
 use Rattle.ranks.specs.Ranks.{rising}
 use Rattle.study.specs.Study.{Study}
-use Rattle.tracing.specs.Steps.{WalksAll}
-use Rattle.tracing.specs.declared.Walked.{Walked}
 use Rattle.wanting.specs.Wanting.{WantsAll}
 use Rattle.wanting.specs.declared.Met.{Met}
 use Rattle.handing.specs.Answers.{notWalked, notMet}
 use Rattle.stages.specs.Whole.{KnownIn, WalkingIn, WantsCountedIn}
-use Rattle.stages.proofs.Stages.{rowed-walks, given-moves, given-starts, given-goals, given-traced, given-walking, walking-rowed, walking-counted}
+use Rattle.stages.proofs.Stages.{rowed-walks, known-walkable, known-walked, given-walking, walking-rowed, walking-counted}
 use Rattle.sweeping.specs.Sweeping.{Swept}
 use Rattle.charts.specs.Answers.{no-walk, off-walk, ring}
 use Rattle.vetting.proofs.Few.{given-rising}
@@ -48,11 +46,7 @@ module _ (m : tie.After-walked) where
       → WalkingIn (now (start-of .args .file)) (rising (start-of .args .count)) (start-of .args .n) total-of (now (start-of .args .acts))
       (now (start-of .args .vars)) (now (start-of .args .setters)) steps-of t
   walking-of t x known =
-      let given = given-rising known in
-      let (rowed, (list, (members, counted))) =
-      subst (λ (l : Walked). WalksAll t (start-of .args .n) steps-of l) (m .walked .given .1) (given-traced given (walk-of .walk-all .ensures .1 t))
-      in
-      given-walking given _ _ rowed list members counted
+      given-walking (given-rising known) (known-walked known (walk-of .walk-all .ensures .1 t)) (m .walked .given .1)
 
 -- .. and the conditions are passed
 module _ (w : tie.After-want-all) where
@@ -92,8 +86,7 @@ module _ (s : tie.After-sweep) where
 walk-all-requires : tie.Need-walk-all-requires
 walk-all-requires c κs =
     let (t, x, known) = c .before .before .pre .2 in
-    let given = given-rising known in
-    (refl, (t, given-moves given, known .variables, given-starts given, given-goals given))
+    (refl, known-walkable known)
 
 enum-known-walked : tie.Need-enum-known-walked
 enum-known-walked c = search needs
@@ -111,7 +104,7 @@ returns c =
       w .before .before .before .pre .0,
       (
         λ t x known away chart.
-            rw (c .unwalked .ensures ∙ ap notWalked e) (no-walk (rw e at (given-traced (given-rising known) (w .walk-all .ensures .1 t)))),
+            rw (c .unwalked .ensures ∙ ap notWalked e) (no-walk (rw e at (known-walked known (w .walk-all .ensures .1 t)))),
         λ t x known zero. absurd (omega (arith, rw (c .unwalked .ensures ∙ ap notWalked e) at zero)),
       ),
     )

@@ -3,8 +3,8 @@
 use native.Mathlib.Omega.{arith}
 use mathlib.Core.Path.{sym, _∙_}
 use borrow.Author.Needs.{needs}
-use Rattle.stages.proofs.Stages.{given-moves}
-use Rattle.explaining.proofs.Known.{given, few-variables, known-goal, known-goal-small}
+use Rattle.stages.proofs.Stages.{known-moves}
+use Rattle.explaining.proofs.Known.{few-variables, known-goal, known-goal-small}
 use Rattle.explaining.proofs.why_broken.Statement.{statement}
 use Rattle.explaining.proofs.why_broken.Tie as tie
 
@@ -21,14 +21,14 @@ trace-back-requires c κs =
       omega (arith, few-variables known),
       rw (c .before .variable-at .ensures .goal) (known-goal-small known _ there),
       s .pre .0,
-      (t, given-moves (given known)),
+      (t, known-moves known),
     )
 
 returns : tie.Need-returns
 returns c = (
   c .trace-back .ensures .0,
   λ file n x t known there.
-      c .trace-back .ensures .1 t (given-moves (given known)) (sym (c .before .before .variable-at .ensures .goal ∙ known-goal known _ there)),
+      c .trace-back .ensures .1 t (known-moves known) (sym (c .before .before .variable-at .ensures .goal ∙ known-goal known _ there)),
 )
 
 pub why-broken-spec : {M : Type 1} → statement M

@@ -3,15 +3,15 @@
 use native.Mathlib.Omega.{arith}
 use mathlib.Core.Path.{refl, _∙_}
 use Rattle.finding.specs.Past.{Past, pastFacts}
-use Rattle.stages.proofs.Stages.{given-moves, given-starts, given-goals, given-traced}
-use Rattle.explaining.proofs.Known.{walks-rowed, given, few-variables, few-actions, known-start, known-stands, known-posts, known-row, off-there, off-variable}
+use Rattle.stages.proofs.Stages.{walks-rowed, known-walkable, known-walked}
+use Rattle.explaining.proofs.Known.{few-variables, few-actions, known-start, known-stands, known-posts, known-row, off-there, off-variable}
 use Rattle.explaining.proofs.why_off.Statement.{statement}
 use Rattle.explaining.proofs.why_off.Tie as tie
 
 walk-all-requires : tie.Need-walk-all-requires
 walk-all-requires c κs =
     let (t, x, known, walks, off) = c .before .before .pre .1 in
-    (refl, (t, given-moves (given known), known .variables, given-starts (given known), given-goals (given known)))
+    (refl, known-walkable known)
 
 action-at-requires : tie.Need-action-at-requires
 action-at-requires c κs =
@@ -51,7 +51,7 @@ walk-past-requires c κs =
     let s = w .before .before .before in
     let (t, x, known, walks, off) = s .pre .1 in
     let there = off-variable off (known .lawful) in
-    let (list, (walk, row)) = known-row known (walks-rowed (w .walk-all .result) walks (given-traced (given known) (w .walk-all .ensures .1 t))) _ there in (
+    let (list, (walk, row)) = known-row known (walks-rowed (w .walk-all .result) walks (known-walked known (w .walk-all .ensures .1 t))) _ there in (
       s .pre .0,
       (
         t,
@@ -70,7 +70,7 @@ returns c =
       c .walk-past .ensures .0,
       λ x t known walks off.
           let there = off-variable off (known .lawful) in
-          let (list, (walk, entered)) = known-row known (walks-rowed (w .walk-all .result) walks (given-traced (given known) (w .walk-all .ensures .1 t))) _ there in
+          let (list, (walk, entered)) = known-row known (walks-rowed (w .walk-all .result) walks (known-walked known (w .walk-all .ensures .1 t))) _ there in
           let value = q .wanted-value .ensures t (w .before .before .before .args .i) (rw (row .place, row .many) (known-stands known _ (off-there off))) (off .value) (off .wants-it) in
           let told =
           c .walk-past .ensures .1 t list

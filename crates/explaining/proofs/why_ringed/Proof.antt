@@ -11,10 +11,9 @@ use Rattle.tables.specs.Rows.{startColumn}
 use Rattle.walks.specs.Walks.{Walks, Met}
 use Rattle.planning.proofs.Bars.{without-bars-walks}
 use Rattle.stages.specs.Whole.{KnownIn}
-use Rattle.stages.proofs.Stages.{given-moves, given-starts, given-goals, given-traced}
+use Rattle.stages.proofs.Stages.{known-walkable, known-walked}
 use Rattle.wanters.proofs.Fresh.{fresh-in-fours, fresh-all-empty}
 use Rattle.ringing.specs.Stranded.{Stranded}
-use Rattle.explaining.proofs.Known.{given}
 use Rattle.explaining.proofs.Ringed.{known-wishes, known-rowed, known-untaken, known-stranded}
 use Rattle.explaining.proofs.why_ringed.Statement.{statement}
 use Rattle.explaining.proofs.why_ringed.Tie as tie
@@ -22,7 +21,7 @@ use Rattle.explaining.proofs.why_ringed.Tie as tie
 walk-all-requires : tie.Need-walk-all-requires
 walk-all-requires c κs =
     let (t, x, i, known, walks, met, stuck) = c .before .before .pre .1 in
-    (refl, (t, given-moves (given known), known .variables, given-starts (given known), given-goals (given known)))
+    (refl, known-walkable known)
 
 enum-known-walked : tie.Need-enum-known-walked
 enum-known-walked c = search needs
@@ -36,7 +35,7 @@ returns c =
     let s = w .before .before .before in (
       (omega arith, s .pre .0),
       λ x i t known walks met stuck.
-          absurd (without-bars-walks (rw (c .enum-told .given .1) at (given-traced (given known) (w .walk-all .ensures .1 t))) walks),
+          absurd (without-bars-walks (rw (c .enum-told .given .1) at (known-walked known (w .walk-all .ensures .1 t))) walks),
     )
 
 left-over-requires : tie.Need-left-over-requires
@@ -44,7 +43,7 @@ left-over-requires c κs =
     let d = c .before .before .before in
     let w = d .before .before in
     let (t, x, i, known, walks, met, stuck) = w .before .before .before .pre .1 in
-    let walked = rw (d .walked .given .1) at (given-traced (given known) (w .walk-all .ensures .1 t)) in
+    let walked = rw (d .walked .given .1) at (known-walked known (w .walk-all .ensures .1 t)) in
     (refl, (t, known-untaken _ _ _ known walks met _ walked))
 
 note-all-requires : tie.Need-note-all-requires
@@ -64,7 +63,7 @@ stranded n x t known walks met =
     let l = n .before .before .before in
     let d = l .before .before .before .before in
     let w = d .before .before in
-    let walked = rw (d .walked .given .1) at (given-traced (given known) (w .walk-all .ensures .1 t)) in
+    let walked = rw (d .walked .given .1) at (known-walked known (w .walk-all .ensures .1 t)) in
     known-stranded _ _ _ known walks met (n .note-all .ensures .1 t (known-wishes _ _ _ known) fresh-all-empty)
     (l .left-over .ensures .1 t (known-untaken _ _ _ known walks met _ walked) (fresh-empty 4))
 

@@ -2,9 +2,7 @@
 -- Assumes nothing.
 use mathlib.Core.Path.{refl}
 use native.Mathlib.Omega.{arith}
-use Rattle.draw.specs.Draw.{drawn}
-use Rattle.stages.proofs.Drawing.{drawn-fine}
-use Rattle.stages.proofs.Stages.{known-given, given-moves, given-starts, given-goals, given-traced}
+use Rattle.stages.proofs.Stages.{known-walkable, known-walked}
 use Rattle.varying.proofs.Once.{known-entered}
 use Rattle.keeping.proofs.Alike.{without-comes}
 use borrow.Author.Needs.{needs}
@@ -15,8 +13,7 @@ walk-all-requires : tie.Need-walk-all-requires
 walk-all-requires c κs =
     let s = c .before .before .before .before in
     let (t, x, known) = s .pre .5 in
-    let given = known-given (drawn 1 (s .args .actions)) known (drawn-fine 1 (s .args .actions)) in
-    (refl, (t, given-moves given, given .variables, given-starts given, given-goals given))
+    (refl, known-walkable known)
 
 enum-known-walked : tie.Need-enum-known-walked
 enum-known-walked c = search needs
@@ -36,8 +33,7 @@ returns c t x known =
     let d = a .before .before in
     let w = d .before .before in
     let s = w .before .before .before .before .before in
-    let given = known-given (drawn 1 (s .args .actions)) known (drawn-fine 1 (s .args .actions)) in
-    let lowest = rw (d .enum-told .given .1) at (given-traced given (w .walk-all .ensures .1 t)) in
+    let lowest = rw (d .enum-told .given .1) at (known-walked known (w .walk-all .ensures .1 t)) in
     a .all-refused .ensures t (s .args .first) _ (known .lawful) (without-comes (known .lawful) (s .args .first) lowest) refl
 
 report-many-requires : tie.Need-report-many-requires
@@ -46,12 +42,11 @@ report-many-requires c κs =
     let w = d .before .before in
     let s = w .before .before .before .before .before in
     let (t, x, known) = s .pre .5 in
-    let given = known-given (drawn 1 (s .args .actions)) known (drawn-fine 1 (s .args .actions)) in
-    let (rowed, (list, (members, counted))) = rw (d .walked .given .1) at (given-traced given (w .walk-all .ensures .1 t)) in (
+    let walked = rw (d .walked .given .1) at (known-walked known (w .walk-all .ensures .1 t)) in (
       s .pre .0,
       record { low = s .pre .1; high = s .pre .4; some = s .pre .2; few = s .pre .3 },
       c .before .before .before .if1 .taken,
-      (t, known-entered _ known _ rowed list members counted),
+      (t, known-entered _ known walked),
     )
 
 same-length-2 : tie.Need-same-length-2
@@ -62,10 +57,8 @@ returns-2 c t x known =
     let p = c .before .before in
     let d = p .before .before .before .before .before .before in
     let w = d .before .before in
-    let s = w .before .before .before .before .before in
-    let given = known-given (drawn 1 (s .args .actions)) known (drawn-fine 1 (s .args .actions)) in
-    let (rowed, (list, (members, counted))) = rw (d .walked .given .1) at (given-traced given (w .walk-all .ensures .1 t)) in
-    p .report-many .ensures t (known-entered _ known _ rowed list members counted)
+    let walked = rw (d .walked .given .1) at (known-walked known (w .walk-all .ensures .1 t)) in
+    p .report-many .ensures t (known-entered _ known walked)
 
 report-few-requires : tie.Need-report-few-requires
 report-few-requires c κs =
@@ -73,12 +66,11 @@ report-few-requires c κs =
     let w = d .before .before in
     let s = w .before .before .before .before .before in
     let (t, x, known) = s .pre .5 in
-    let given = known-given (drawn 1 (s .args .actions)) known (drawn-fine 1 (s .args .actions)) in
-    let (rowed, (list, (members, counted))) = rw (d .walked .given .1) at (given-traced given (w .walk-all .ensures .1 t)) in (
+    let walked = rw (d .walked .given .1) at (known-walked known (w .walk-all .ensures .1 t)) in (
       s .pre .0,
       record { low = s .pre .1; high = s .pre .4; some = s .pre .2; few = s .pre .3 },
       omega (arith, c .before .before .before .if1 .left),
-      (t, known-entered _ known _ rowed list members counted),
+      (t, known-entered _ known walked),
     )
 
 same-length-3 : tie.Need-same-length-3
@@ -89,10 +81,8 @@ returns-3 c t x known =
     let p = c .before .before in
     let d = p .before .before .before .before .before .before in
     let w = d .before .before in
-    let s = w .before .before .before .before .before in
-    let given = known-given (drawn 1 (s .args .actions)) known (drawn-fine 1 (s .args .actions)) in
-    let (rowed, (list, (members, counted))) = rw (d .walked .given .1) at (given-traced given (w .walk-all .ensures .1 t)) in
-    p .report-few .ensures t (known-entered _ known _ rowed list members counted)
+    let walked = rw (d .walked .given .1) at (known-walked known (w .walk-all .ensures .1 t)) in
+    p .report-few .ensures t (known-entered _ known walked)
 
 pub report-loaded-spec : {M : Type 1} → statement M
 report-loaded-spec =

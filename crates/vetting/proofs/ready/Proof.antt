@@ -2,7 +2,7 @@
 -- Assumes nothing.
 use mathlib.Core.Path.{refl, ap, _∙_}
 use Rattle.handing.specs.Answers.{notWalked}
-use Rattle.stages.proofs.Stages.{given-moves, given-starts, given-goals, given-traced, given-walking}
+use Rattle.stages.proofs.Stages.{known-walkable, known-walked, given-walking}
 use Rattle.charts.specs.Answers.{no-walk}
 use Rattle.vetting.proofs.Few.{given-rising}
 use borrow.Author.Needs.{needs}
@@ -12,8 +12,7 @@ use Rattle.vetting.proofs.ready.Tie as tie
 walk-all-requires : tie.Need-walk-all-requires
 walk-all-requires c κs =
     let (t, x, known) = c .before .before .before .pre .4 in
-    let given = given-rising known in
-    (refl, (t, given-moves given, known .variables, given-starts given, given-goals given))
+    (refl, known-walkable known)
 
 enum-known-walked : tie.Need-enum-known-walked
 enum-known-walked c = search needs
@@ -30,7 +29,7 @@ returns c =
     let a = c .before .before .before in (
       a .before .before .before .before .pre .3,
       λ t x known chart.
-          rw (c .unwalked .ensures ∙ ap notWalked e) (no-walk (rw e at (given-traced (given-rising known) (a .walk-all .ensures .1 t)))),
+          rw (c .unwalked .ensures ∙ ap notWalked e) (no-walk (rw e at (known-walked known (a .walk-all .ensures .1 t)))),
     )
 
 order-words-requires : tie.Need-order-words-requires
@@ -39,9 +38,8 @@ order-words-requires c κs =
     let a = m .before .before in
     let s = a .before .before .before .before in
     let (t, x, known) = s .pre .4 in
-    let given = given-rising known in
-    let (rowed, (list, (members, counted))) = rw (m .walked .given .1) at (given-traced given (a .walk-all .ensures .1 t)) in
-    (s .pre .0, s .pre .1, s .pre .2, s .pre .3, (t, s .args .n, given-walking given _ _ rowed list members counted))
+    let walking = given-walking (given-rising known) (known-walked known (a .walk-all .ensures .1 t)) (m .walked .given .1) in
+    (s .pre .0, s .pre .1, s .pre .2, s .pre .3, (t, s .args .n, walking))
 
 returns-2 : tie.Need-returns-2
 returns-2 c =
@@ -50,9 +48,8 @@ returns-2 c =
     let s = a .before .before .before .before in (
       c .order-words .ensures .0,
       λ t x known.
-          let given = given-rising known in
-          let (rowed, (list, (members, counted))) = rw (m .walked .given .1) at (given-traced given (a .walk-all .ensures .1 t)) in
-          c .order-words .ensures .1 t (s .args .n) (given-walking given _ _ rowed list members counted),
+          let walking = given-walking (given-rising known) (known-walked known (a .walk-all .ensures .1 t)) (m .walked .given .1) in
+          c .order-words .ensures .1 t (s .args .n) walking,
     )
 
 pub ready-spec : {M : Type 1} → statement M
