@@ -19,9 +19,6 @@ use lacking::Lack;
 // So many numbers a word has.
 const FEW: u8 = 64;
 
-// No action: what `lowest_amiss` answers if none is.
-const NONE: u16 = 256;
-
 // The lowest action that stands twice in the list, or is just listed or just a member; 256 if there is none.
 pub fn lowest_amiss(list: &[u8], members: u64) -> u16
     requires { ⌜ Entries (now list) × Low members ⌝ }
@@ -44,7 +41,7 @@ pub fn lowest_amiss(list: &[u8], members: u64) -> u16
     );
     let amiss = bits::joined(twice, unlike);
     if amiss == 0 {
-        return NONE;
+        return bits::NONE;
     }
     bits::lowest(amiss) as u16
 }

@@ -13,9 +13,6 @@ pub enum Closed {
     Circle,
 }
 
-// No number: what `least_outside` answers if there is none.
-const NONE: u16 = 256;
-
 // The bits of x that y has not.
 pub fn without(x: u64, y: u64) -> u64
     ensures { λ r. ⌜ ((j : ℕ) → bit r j ≡ (not (bit y j) && bit x j)) ⌝ }
@@ -35,7 +32,7 @@ fn least_outside(set: &[u64; 4], other: &[u64; 4]) -> u16
         }
         q += 1;
     }
-    NONE
+    bits::NONE
 }
 
 // Puts the members of the other set into the set.
@@ -95,7 +92,7 @@ fn finish(root: u8, rows: &mut [[u64; 4]; 256], done: &mut [u64; 4], path: &mut 
         let x = path[depth - 1];
         let at = x as usize;
         let y = least_outside(&rows[at], done);
-        if y == NONE {
+        if y == bits::NONE {
             gather(at, rows);
             bits::add(done, x);
             depth -= 1;
@@ -121,7 +118,7 @@ pub fn close(members: &[u64; 4], rows: &mut [[u64; 4]; 256]) -> Closed
     let mut done = [0u64; 4];
     let mut path = [0u8; 256];
     let mut root = least_outside(members, &done);
-    while root != NONE {
+    while root != bits::NONE {
         if finish(root as u8, rows, &mut done, &mut path) {
             return Closed::Circle;
         }

@@ -34,9 +34,6 @@ pub const MOST_ACTIONS: usize = 256;
 
 pub const MOST_PAIRS: usize = 4096;
 
-// No action: what `lowest_amiss` answers if none is.
-pub const NONE: u16 = 256;
-
 pub fn numbers(number: u64, first: usize, second: usize) -> Answer
     ensures { λ r. ⌜ r ≡ three number first second ⌝ }
 {
@@ -114,7 +111,7 @@ fn vet_words(
         return numbers(14, k, 0);
     }
     let low = comparing::lowest_amiss(actions, members);
-    if low < NONE {
+    if low < bits::NONE {
         return numbers(25, low as usize, 0);
     }
     vet_ties(total, members, words, actions, pairs, room)

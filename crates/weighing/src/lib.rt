@@ -99,7 +99,7 @@ pub fn vet(
         return vetting::numbers(14, k, 0);
     }
     let low = listing::lowest_amiss(actions, members);
-    if low < vetting::NONE {
+    if low < bits::NONE {
         return vetting::numbers(25, low as usize, 0);
     }
     vet_pairs(file, n, count, acts, vars, setters, members, actions, pairs)
