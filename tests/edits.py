@@ -1,13 +1,13 @@
 #!/usr/bin/env python3
-"""Tries one share of the must-fail edits in a copy of the tree whose crates are proved: the prover must refuse each.
+"""Tries must-fail edits in a copy of the tree whose crates are proved: the prover must refuse each.
 
-    tests/edits.py SHARE SHARES    SHARE from 1 on
+    tests/edits.py CLAIMS    a folder, the same for all runs that share the edits: a run tries the edits of a crate that it claims there
 
 An edit is made in the copy's own crate, and the crate is checked as `rt dev` does it: the modules that the edit does not reach are
 those that were checked when the crate was proved from nothing, the others are checked again. An edit is refused where the prover
 says that the crate is not proved, and does not begin with saying that the proof is for code of another shape, in which case no fact
-need have failed. What it said is kept in target/must-fail/CRATE/EDIT.log. A crate's edits stay together, and the shares are made even
-by how many edits there are. The last line is 'N passed, M failed'.
+need have failed. What it said is kept in target/must-fail/CRATE/EDIT.log. A crate's edits stay together; those that take longest are
+claimed first. The last line is 'N passed, M failed'.
 """
 
 import os
@@ -23,14 +23,19 @@ ERROR = re.compile(r"^(\S*): error: (.*)$", re.M)
 OTHER_SHAPE = re.compile(r"`\S*`: record `\S*\.Lts\.\S*` has no field")
 
 
-def shares(folders, many):
-    """The folders in so many lists, those of the most edits first into the list that has the fewest so far."""
-    lists, edits = [[] for _ in range(many)], [0] * many
-    for count, folder in sorted(((len(list(folder.glob("*.edit"))), folder) for folder in folders), key=lambda one: (-one[0], one[1])):
-        least = edits.index(min(edits))
-        lists[least].append(folder)
-        edits[least] += count
-    return lists
+def is_program(crate):
+    return (CRATES / crate / "src" / "main.rt").exists()
+
+
+def claimed(claims):
+    """The crates whose edits nobody else has claimed, one after another: programs first, then those of the most edits."""
+    edits = {folder.parent.name: sorted(folder.glob("*.edit")) for folder in sorted(CRATES.glob("*/must-fail"))}
+    for crate in sorted(edits, key=lambda crate: (not is_program(crate), -len(edits[crate]))):
+        try:
+            (claims / crate).mkdir()
+        except FileExistsError:
+            continue
+        yield crate, edits[crate]
 
 
 class Prover:
@@ -48,7 +53,7 @@ class Prover:
 
     def check(self, crate):
         """What the prover says of a crate, and whether it refuses it for a fact."""
-        root = next(path for path in (CRATES / crate / "src" / name for name in ("main.rt", "lib.rt")) if path.exists())
+        root = CRATES / crate / "src" / ("main.rt" if is_program(crate) else "lib.rt")
         rlibs = {name: (TARGET if (CRATES / name).exists() else self.own) / "rlib" / f"{name}.rlib" for name in self.stands_on[crate]}
         words = [self.own / "bin" / "rattle", "check", "--crate-name", crate, root]
         for name, rlib in {"std": self.own / "rlib" / "std.rlib", **rlibs}.items():
@@ -94,9 +99,8 @@ def put(texts):
         path.write_text(text)
 
 
-def refuses(prover, edit):
+def refuses(prover, crate, edit):
     """Whether the prover refuses an edit; says so."""
-    crate = edit.parents[1].name
     before, after = edited(edit)
     began = time.time()
     prover.reuse_proof(crate)
@@ -116,12 +120,11 @@ def refuses(prover, edit):
 
 
 def main():
-    share, many = map(int, sys.argv[1:])
+    claims = Path(sys.argv[1])
     if Path(".git").exists():
         sys.exit("tests/edits.py: this is a repository, and no copy of one")
     prover = Prover()
-    folders = shares(sorted(CRATES.glob("*/must-fail")), many)[share - 1]
-    results = [refuses(prover, edit) for folder in folders for edit in sorted(folder.glob("*.edit"))]
+    results = [refuses(prover, crate, edit) for crate, edits in claimed(claims) for edit in edits]
     print(f"{sum(results)} passed, {len(results) - sum(results)} failed")
     sys.exit(not all(results))
 
