@@ -228,7 +228,7 @@ PART void look_first(planner *p, const study *s, unsigned n) {
 }
 
 /* Planning up to 64 actions: they are known by rank, and a set of ranks is one word. An action that may not be taken yet hangs
- * on the highest rank that has to come before it, and is looked at again when that one is taken. */
+ * on the highest rank that has to come before it, and is looked at again when that one is taken; up to 8, all are looked at. */
 typedef struct {
   uint64_t before[64];               /* by rank: those that come directly before */
   uint64_t hung[64];                 /* by rank: those that hang on it */
@@ -240,7 +240,7 @@ typedef struct {
 } ranked;
 
 /* In `met` the rank that sets the value stands in bits 0 to 5, the rank that leaves it in bits 7 to 12. */
-enum { FEW = 64, SETS = 1 << 6, LEAVES = 1 << 13, ON_WALK = 1 << 14 };
+enum { FEW = 64, LOOKED_AT = 8, SETS = 1 << 6, LEAVES = 1 << 13, ON_WALK = 1 << 14 };
 
 PART uint64_t only(unsigned rank) { return 1ull << rank; }
 
@@ -295,6 +295,35 @@ PART void hang(ranked *p, unsigned r) {
     p->ready |= only(r);
 }
 
+/* Takes the least that is ready, and settles those that hung on it: as many as could be taken. */
+PART unsigned take_hanging(ranked *p, unsigned total, uint8_t *out) {
+  for (uint64_t some = p->left; some; some &= some - 1) hang(p, (unsigned)__builtin_ctzll(some));
+  for (unsigned k = 0; k < total; k++) {
+    uint64_t ready = p->ready;
+    if (!ready) return k;
+    unsigned r = (unsigned)__builtin_ctzll(ready);
+    p->ready = ready & (ready - 1);
+    p->left &= ~only(r);
+    out[k] = p->action[r];
+    for (uint64_t some = p->hung[r]; some; some &= some - 1) hang(p, (unsigned)__builtin_ctzll(some));
+  }
+  return total;
+}
+
+/* The same for few, by looking at those that are left. */
+PART unsigned take_looking(ranked *p, unsigned total, uint8_t *out) {
+  uint64_t left = p->left;
+  for (unsigned k = 0; k < total; k++) {
+    uint64_t some = left;
+    while (some && p->before[__builtin_ctzll(some)] & left) some &= some - 1;
+    if (!some) return k;
+    unsigned r = (unsigned)__builtin_ctzll(some);
+    left &= ~only(r);
+    out[k] = p->action[r];
+  }
+  return total;
+}
+
 static answer plan_few(const uint8_t *f, const uint8_t *ranks, study *s, uint8_t *plan, size_t plan_len) {
   ranked p;
   uint8_t out[FEW];
@@ -302,17 +331,9 @@ static answer plan_few(const uint8_t *f, const uint8_t *ranks, study *s, uint8_t
   if (traced.number != 0) return traced;
   answer ordered = order_ranked(&p, s, f, ranks);
   if (ordered.number != 0) return ordered;
-  for (uint64_t some = p.left; some; some &= some - 1) hang(&p, (unsigned)__builtin_ctzll(some));
   unsigned total = (unsigned)traced.first;
-  for (unsigned k = 0; k < total; k++) {
-    uint64_t ready = p.ready;
-    if (!ready) return refused(12, k);
-    unsigned r = (unsigned)__builtin_ctzll(ready);
-    p.ready = ready & (ready - 1);
-    p.left &= ~only(r);
-    out[k] = p.action[r];
-    for (uint64_t some = p.hung[r]; some; some &= some - 1) hang(&p, (unsigned)__builtin_ctzll(some));
-  }
+  unsigned taken = (total > LOOKED_AT ? take_hanging : take_looking)(&p, total, out);
+  if (taken < total) return refused(12, taken);
   if (plan_len < total) return refused(13, total);
   memcpy(plan, out, total);
   return three(0, total, 0);

@@ -3,8 +3,8 @@ ghost use mathlib.Core.Path.{_≡_};
 ghost use mathlib.Core.Logic.{_↔_};
 ghost use mathlib.Core.Bool.{false};
 ghost use mathlib.Core.List.{List};
-ghost use Prim.Native.Nat.{ℕ, _≤_, _<_};
-ghost use lib.ListN.{length, getD};
+ghost use Prim.Native.Nat.{ℕ, _<_};
+ghost use lib.ListN.{length};
 ghost use Rattle.bits.specs.Bits.{bit};
 ghost use Rattle.hanging.specs.Hanging.{InWord};
 ghost use Rattle.tying.specs.Tying.{Low, Tied};
@@ -74,9 +74,9 @@ fn stray(x: u8, y: u8, members: u64) -> bool
 
 // The index of the first pair that names an action that is not a member, or an action and itself; or the number of pairs,
 // and each first is then tied before its second. A last byte that stands alone is such a pair.
-pub fn tie_all(pairs: &[u8], members: u64, ties: &mut [u64; 128]) -> usize
-    requires { ⌜ (length (now ties) ≡ 128) × Low members × Untied (now ties) ⌝ }
-    ensures { λ r. ⌜ (length (now (ties .exit)) ≡ 128) × ((j : ℕ) → 64 ≤ j → getD (now (ties .exit)) j 0 ≡ getD (now (ties .entry)) j 0) ⌝ }
+pub fn tie_all(pairs: &[u8], members: u64, ties: &mut [u64; 64]) -> usize
+    requires { ⌜ (length (now ties) ≡ 64) × Low members × Untied (now ties) ⌝ }
+    ensures { λ r. ⌜ length (now (ties .exit)) ≡ 64 ⌝ }
     ensures { λ r. ⌜ ((list : List ℕ)
         → ListedIn list members
         → LinksTo list (pairsOf (now (pairs .entry))) (Tied (now (ties .exit))) r) ⌝ }
@@ -98,7 +98,7 @@ pub fn tie_all(pairs: &[u8], members: u64, ties: &mut [u64; 128]) -> usize
 }
 
 // What is wanted before some member and is not tied before it.
-fn lacking_any(members: u64, words: &[u64; 128], ties: &[u64; 128]) -> u64
+fn lacking_any(members: u64, words: &[u64; 64], ties: &[u64; 64]) -> u64
     ensures { λ r. ⌜ LacksAny members (now (words .entry)) (now (ties .entry)) r ⌝ }
 {
     let mut any = 0;
@@ -113,7 +113,7 @@ fn lacking_any(members: u64, words: &[u64; 128], ties: &[u64; 128]) -> u64
 }
 
 // The lowest member before which x is wanted and not tied.
-fn lowest_second(x: u8, members: u64, words: &[u64; 128], ties: &[u64; 128]) -> u8
+fn lowest_second(x: u8, members: u64, words: &[u64; 64], ties: &[u64; 64]) -> u8
     requires { ⌜ (x < 64) × ((y : ℕ) × Lacking members (now words) (now ties) x y) ⌝ }
     ensures { λ r. ⌜ LowestSecond members (now (words .entry)) (now (ties .entry)) x r ⌝ }
 {
@@ -130,7 +130,7 @@ fn lowest_second(x: u8, members: u64, words: &[u64; 128], ties: &[u64; 128]) -> 
 }
 
 // The words have what is wanted before each member: all that are members are tied so; or the lowest two that are not.
-pub fn lowest(members: u64, words: &[u64; 128], ties: &[u64; 128]) -> Lack
+pub fn lowest(members: u64, words: &[u64; 64], ties: &[u64; 64]) -> Lack
     requires { ⌜ Low members ⌝ }
     ensures { λ r. ⌜ LacksOf (Wanted members (now (words .entry))) (Tied (now (ties .entry))) r ⌝ }
 {

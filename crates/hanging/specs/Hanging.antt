@@ -1,6 +1,6 @@
 -- Numbers below 64 that are to be taken, each after those that come directly before it, as bits of words.
 -- Assumes nothing.
-use Prim.Native.Nat.{ℕ}
+use Prim.Native.Nat.{ℕ, _≤_, _<_}
 use mathlib.Core.Path.{_≡_}
 use mathlib.Core.Logic.{_⊎_}
 use mathlib.Core.Bool.{true}
@@ -8,13 +8,6 @@ use mathlib.Core.List.{List, map}
 use lib.ListN.{getD, take, drop}
 use Rattle.bits.specs.Bits.{bit}
 use Rattle.orders.specs.Orders.{None, Greedy}
-
--- one table of 128 words holds for each number those that come directly before it, and behind them those that hang on it
-abbrev pub beforeIn : List ℕ → List ℕ
-beforeIn words = take 64 words
-
-abbrev pub hungIn : List ℕ → List ℕ
-hungIn words = drop 64 words
 
 -- y is in the word
 abbrev pub InWord : ℕ → ℕ → Type 0
@@ -41,13 +34,15 @@ pub record Hangs (some : ℕ → Type 0) (before : List ℕ) (left ready : ℕ) 
   pub hung-only : (x y : ℕ) → InWord (getD hung′ x 0) y → InWord (getD hung x 0) y ⊎ (some y × DirectlyBefore before x y)
   pub settled : (y : ℕ) → some y → Settled before left ready′ hung′ y
 
--- nothing hangs
-abbrev pub NoneHung : List ℕ → Type 0
-NoneHung hung = (x y : ℕ) → InWord (getD hung x 0) y → ⊥
-
 -- that number alone
 abbrev pub Only : ℕ → ℕ → Type 0
 Only x y = y ≡ x
+
+-- r is the least of those left that nothing left comes directly before; or there is none, and r is 64 at least
+pub record LeastFree (before : List ℕ) (left r : ℕ) : Type 0 where
+  pub free : r < 64 → InWord left r × Free before left r
+  pub least : (y : ℕ) → y < r → InWord left y → Free before left y → ⊥
+  pub none : 64 ≤ r → (y : ℕ) → InWord left y → Free before left y → ⊥
 
 -- the members were taken greedily, the least first, and their names stand in the room from 256 on
 pub record TakenByName (members : ℕ) (before names : List ℕ) (count : ℕ) (room : List ℕ) : Type 0 where

@@ -60,7 +60,7 @@ module _ (word q start rank : ℕ) where
 
 -- ---- a rank before that of the action that leaves a value
 
-module _ (step rank : ℕ) (ranks before : List ℕ) (size : length before ≡ 128) where
+module _ (step rank : ℕ) (ranks before : List ℕ) (size : length before ≡ 64) where
   pub end-unmarked : step ≤ 1 → LeaverMarked step rank ranks before before
   end-unmarked h = record { long = size; grows = λ a b m. m; there = λ l e. absurd (omega arith); only = λ a b m. inl m }
 

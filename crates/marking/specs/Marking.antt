@@ -27,7 +27,7 @@ pub record SetterMarked (word q start rank word′ : ℕ) : Type 0 where
 
 -- the rank is put before that of the action that leaves the value, where the step names one
 pub record LeaverMarked (step rank : ℕ) (ranks before before′ : List ℕ) : Type 0 where
-  pub long : length before′ ≡ 128
+  pub long : length before′ ≡ 64
   pub grows : Grows before before′
   pub there : (l : ℕ) → step ≡ l + 2 → Marked before′ (getD ranks l 0) rank
   pub only : (a b : ℕ) → Marked before′ a b → Marked before a b ⊎ ((b ≡ rank) × ((l : ℕ) × ((step ≡ l + 2) × (getD ranks l 0 ≡ a))))

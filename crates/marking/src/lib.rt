@@ -17,8 +17,8 @@ pub fn with_setter(word: u64, q: u8, start: u8, j: usize, ranks: &[u8], setters:
 }
 
 // Puts a rank before that of the action that leaves the step's value, unless the walk ends there.
-pub fn put_before(step: u16, rank: u8, ranks: &[u8], before: &mut [u64; 128])
-    requires { ⌜ (length (now before) ≡ 128) × (rank < 64) × Ranked (now ranks) × (step < length (now ranks) + 2) ⌝ }
+pub fn put_before(step: u16, rank: u8, ranks: &[u8], before: &mut [u64; 64])
+    requires { ⌜ (length (now before) ≡ 64) × (rank < 64) × Ranked (now ranks) × (step < length (now ranks) + 2) ⌝ }
     ensures { λ _. ⌜ LeaverMarked step rank (now (ranks .entry)) (now (before .entry)) (now (before .exit)) ⌝ }
 {
     if 1 < step {

@@ -33,7 +33,7 @@ Unmarked table = (j : ℕ) → getD table j 0 ≡ 0
 pub record Underway
     (file ranks : List ℕ) (a : ℕ) (acts vars : List Row) (setters steps before before′ : List ℕ) (members i : ℕ) : Type 0 where
   pub some : (t : Study) × OrderableIn file a acts vars setters steps t
-  pub size : length before′ ≡ 128
+  pub size : length before′ ≡ 64
   pub ranked : Ranked ranks
   pub long : length ranks ≡ a
   pub small : a ≤ 64
@@ -44,7 +44,7 @@ pub record Underway
 
 pub begins :
     {file ranks : List ℕ} {a : ℕ} {acts vars : List Row} {setters steps before : List ℕ}
-    → length before ≡ 128 → a ≤ 64 → length ranks ≡ a → ((i : ℕ) → i < a → getD ranks i 0 < 64)
+    → length before ≡ 64 → a ≤ 64 → length ranks ≡ a → ((i : ℕ) → i < a → getD ranks i 0 < 64)
     → (t : Study) × OrderableIn file a acts vars setters steps t
     → Underway file ranks a acts vars setters steps before before 0 0
 begins size small long low some = record {
@@ -107,7 +107,7 @@ module _
       pub goes-on :
           {before″ : List ℕ} {members′ : ℕ}
           → ((b : ℕ) → bit members′ b ≡ (eqb (getD ranks i 0) b || bit members b))
-          → length before″ ≡ 128
+          → length before″ ≡ 64
           → ((t : Study) (j : ℕ) → Turn file act (16 * x + y) (getD ranks i 0) ranks (startColumn vars) setters steps t j → ActionMarked t j ranks steps before′ before″)
           → Underway file ranks a acts vars setters steps before before″ members′ (i + 1)
       goes-on put size each = record {

@@ -51,7 +51,7 @@ module _
     setter-fits away = rw (turn .is-index) (omega (arith, s .actions, setter (rw (turn .is-pre, same-start) at away) .0))
 
     pub marks :
-        {l : ℕ} (before before′ : List ℕ) {first word : ℕ} (joined : ℕ) → length before′ ≡ 128 → Ranked ranks → l ≡ rank
+        {l : ℕ} (before before′ : List ℕ) {first word : ℕ} (joined : ℕ) → length before′ ≡ 64 → Ranked ranks → l ≡ rank
         → SetterMarked 0 (act .pre) start (getD ranks (getD setters j 0) 0) first
         → WantedMarked t i (length (conditionsOf t i)) rank ranks steps before before′ first word
         → ((b : ℕ) → bit joined b ≡ (bit word b || bit (getD before′ l 0) b))

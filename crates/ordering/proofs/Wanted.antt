@@ -20,7 +20,7 @@ use Rattle.ordering.proofs.OneCondition.{condition, low-rank, told-star
 pub record Underway
     (file : List ℕ) (place many rank : ℕ) (ranks firsts setters steps before before′ : List ℕ) (first word at k : ℕ) : Type 0 where
   pub some : (t : Study) × (i : ℕ) × Surveyed file place many rank ranks firsts setters steps t i
-  pub size : length before′ ≡ 128
+  pub size : length before′ ≡ 64
   pub low : rank < 64
   pub ranked : Ranked ranks
   pub few : k ≤ many
@@ -31,7 +31,7 @@ pub record Underway
 
 pub begins :
     {file : List ℕ} {place many rank : ℕ} {ranks firsts setters steps before : List ℕ} {first : ℕ}
-    → length before ≡ 128 → Ranked ranks
+    → length before ≡ 64 → Ranked ranks
     → (t : Study) × (i : ℕ) × Surveyed file place many rank ranks firsts setters steps t i
     → Underway file place many rank ranks firsts setters steps before before first first place 0
 begins size ranked some = record {

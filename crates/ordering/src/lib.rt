@@ -33,11 +33,11 @@ fn order_wanted(
     vars: &[[u8; 3]; 32],
     setters: &[u8; 512],
     steps: &[u16; 512],
-    before: &mut [u64; 128],
+    before: &mut [u64; 64],
 ) -> SetBy
-    requires { ⌜ (length (now before) ≡ 128) × Ranked (now ranks)
+    requires { ⌜ (length (now before) ≡ 64) × Ranked (now ranks)
         × ((t : Study) × (i : ℕ) × Surveyed (now file) (act .place) (act .many) rank (now ranks) (startColumn (now vars)) (now setters) (now steps) t i) ⌝ }
-    ensures { λ r. ⌜ length (now (before .exit)) ≡ 128 ⌝ }
+    ensures { λ r. ⌜ length (now (before .exit)) ≡ 64 ⌝ }
     ensures { λ r. ⌜ ((t : Study) (i : ℕ)
         → Surveyed (now (file .entry)) (act .place) (act .many) rank (now (ranks .entry)) (startColumn (now (vars .entry))) (now (setters .entry)) (now (steps .entry)) t i
         → OrdersWanted t i rank (now (ranks .entry)) (now (steps .entry)) (now (before .entry)) (now (before .exit)) first r) ⌝ }
@@ -75,11 +75,11 @@ fn order_one(
     vars: &[[u8; 3]; 32],
     setters: &[u8; 512],
     steps: &[u16; 512],
-    before: &mut [u64; 128],
+    before: &mut [u64; 64],
 ) -> Wanted
-    requires { ⌜ (length (now before) ≡ 128) × Ranked (now ranks)
+    requires { ⌜ (length (now before) ≡ 64) × Ranked (now ranks)
         × ((t : Study) × (i : ℕ) × Turn (now file) act j rank (now ranks) (startColumn (now vars)) (now setters) (now steps) t i) ⌝ }
-    ensures { λ r. ⌜ length (now (before .exit)) ≡ 128 ⌝ }
+    ensures { λ r. ⌜ length (now (before .exit)) ≡ 64 ⌝ }
     ensures { λ r. ⌜ ((t : Study) (i : ℕ)
         → Turn (now (file .entry)) act j rank (now (ranks .entry)) (startColumn (now (vars .entry))) (now (setters .entry)) (now (steps .entry)) t i
         → OrdersOne t i (now (ranks .entry)) (now (steps .entry)) (now (before .entry)) (now (before .exit)) r) ⌝ }
@@ -106,11 +106,11 @@ pub fn order_all(
     vars: &[[u8; 3]; 32],
     setters: &[u8; 512],
     steps: &[u16; 512],
-    before: &mut [u64; 128],
+    before: &mut [u64; 64],
 ) -> Found
-    requires { ⌜ (length (now before) ≡ 128) × (actions ≤ 64) × (length (now ranks) ≡ actions) × ((i : ℕ) → i < actions → getD (now ranks) i 0 < 64)
+    requires { ⌜ (length (now before) ≡ 64) × (actions ≤ 64) × (length (now ranks) ≡ actions) × ((i : ℕ) → i < actions → getD (now ranks) i 0 < 64)
         × ((t : Study) × OrderableIn (now file) actions (now acts) (now vars) (now setters) (now steps) t) ⌝ }
-    ensures { λ r. ⌜ length (now (before .exit)) ≡ 128 ⌝ }
+    ensures { λ r. ⌜ length (now (before .exit)) ≡ 64 ⌝ }
     ensures { λ r. ⌜ ((t : Study)
         → OrderableIn (now (file .entry)) actions (now (acts .entry)) (now (vars .entry)) (now (setters .entry)) (now (steps .entry)) t
         → ((i j : ℕ) → i < actions → j < actions → getD (now (ranks .entry)) i 0 ≡ getD (now (ranks .entry)) j 0 → i ≡ j)

@@ -2,8 +2,7 @@
 -- Assumes nothing.
 use mathlib.Core.Path.{_≡_, sym, _∙_}
 use mathlib.Core.List.{List}
-use Prim.Native.Nat.{ℕ, _≤_, _<_}
-use native.Mathlib.Omega.{arith}
+use Prim.Native.Nat.{ℕ, _<_}
 use lib.ListN.{length, getD}
 use Rattle.study.specs.Study.{Study}
 use Rattle.walks.specs.Walks.{OnAWalk}
@@ -18,19 +17,16 @@ use Rattle.renaming.specs.Renaming.{ByAction, OrdersByAction, Renamed, R
 walk-low : {t : Study} {i : ℕ} → OnAWalk t i → i < length (t .actions)
 walk-low on = on-walk-usable on .there
 
-module _ (t : Study) (own table words : List ℕ) (few : length (t .actions) ≤ 64)
-    (itself : (i : ℕ) → i < length (t .actions) → getD own i 0 ≡ i) (half : (i : ℕ) → i < 64 → getD words i 0 ≡ getD table i 0) where
-  own-ordered : {members : ℕ} → Ordered t own members table → ByAction t members words
+module _ (t : Study) (own words : List ℕ) (itself : (i : ℕ) → i < length (t .actions) → getD own i 0 ≡ i) where
+  own-ordered : {members : ℕ} → Ordered t own members words → ByAction t members words
   own-ordered {members} ordered = record {
     member = λ i on. rw (itself i (walk-low on)) at (ordered .member i on);
     only-members = λ r h. let (i, (on, is)) = ordered .only-members r h in rw (sym (itself i (walk-low on)) ∙ is) at on;
-    complete = λ i j on to comes.
-        rw (half j (omega (arith, walk-low to))) (rw (itself i (walk-low on), itself j (walk-low to)) at (ordered .complete i j on to comes));
-    sound = λ i j on to h.
-        ordered .sound i j on to (rw (itself i (walk-low on), itself j (walk-low to)) (rw (half j (omega (arith, walk-low to))) at h));
+    complete = λ i j on to comes. rw (itself i (walk-low on), itself j (walk-low to)) at (ordered .complete i j on to comes);
+    sound = λ i j on to h. ordered .sound i j on to (rw (itself i (walk-low on), itself j (walk-low to)) h);
   }
 
-  pub own-orders : (found : Found) → OrdersAll t own table found → OrdersByAction t words found
+  pub own-orders : (found : Found) → OrdersAll t own words found → OrdersByAction t words found
   own-orders (Members m) (met, ordered) = (met, own-ordered ordered)
   own-orders (Off i u) off = off
 

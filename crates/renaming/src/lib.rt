@@ -21,18 +21,7 @@ fn number_all(ranks: &mut [u8; 64])
     }
 }
 
-fn copy_half(table: &[u64; 128], words: &mut [u64; 64])
-    requires { ⌜ length (now words) ≡ 64 ⌝ }
-    ensures { λ _. ⌜ (length (now (words .exit)) ≡ 64) × ((i : ℕ) → i < 64 → getD (now (words .exit)) i 0 ≡ getD (now (table .entry)) i 0) ⌝ }
-{
-    let mut i = 0;
-    while i < 64 {
-        words[i] = table[i];
-        i += 1;
-    }
-}
-
-// Orders the actions as if each had its own number for its rank.
+// Orders the actions as if each had its own number for its rank, into cleared words.
 pub fn order_by_action(
     file: &[u8],
     actions: usize,
@@ -47,12 +36,12 @@ pub fn order_by_action(
     ensures { λ r. ⌜ length (now (words .exit)) ≡ 64 ⌝ }
     ensures { λ r. ⌜ ((t : Study)
         → OrderableIn (now (file .entry)) actions (now (acts .entry)) (now (vars .entry)) (now (setters .entry)) (now (steps .entry)) t
+        → ((j : ℕ) → getD (now (words .entry)) j 0 ≡ 0)
         → OrdersByAction t (now (words .exit)) r) ⌝ }
 {
     let mut own = [0u8; 64];
     number_all(&mut own);
-    let mut table = [0u64; 128];
-    let found = ordering::order_all(
+    ordering::order_all(
         file,
         &own[..actions],
         actions,
@@ -60,10 +49,8 @@ pub fn order_by_action(
         vars,
         setters,
         steps,
-        &mut table,
-    );
-    copy_half(&table, words);
-    found
+        words,
+    )
 }
 
 // The word with the rank of each action that is in it.
@@ -82,9 +69,9 @@ fn renamed(word: u64, ranks: &[u8]) -> u64
 }
 
 // Enters what comes before each member, of the members, under its rank. Answers the members' ranks.
-pub fn rename_all(members: u64, words: &[u64; 64], ranks: &[u8], under: &mut [u64; 128]) -> u64
-    requires { ⌜ (length (now under) ≡ 128) × Below (length (now ranks)) members × Ranked (now ranks) × Apart (now ranks) ⌝ }
-    ensures { λ r. ⌜ (length (now (under .exit)) ≡ 128) × Renamed (now (ranks .entry)) members r ⌝ }
+pub fn rename_all(members: u64, words: &[u64; 64], ranks: &[u8], under: &mut [u64; 64]) -> u64
+    requires { ⌜ (length (now under) ≡ 64) × Below (length (now ranks)) members × Ranked (now ranks) × Apart (now ranks) ⌝ }
+    ensures { λ r. ⌜ (length (now (under .exit)) ≡ 64) × Renamed (now (ranks .entry)) members r ⌝ }
     ensures { λ r. ⌜ (((j : ℕ) → getD (now (under .entry)) j 0 ≡ 0)
         → Reworded members (now (words .entry)) (now (ranks .entry)) (now (under .exit))) ⌝ }
 {

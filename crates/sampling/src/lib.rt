@@ -27,9 +27,9 @@ pub fn take_few_by(
 {
     let mut ranks = [0u8; 64];
     draw::draw(seed, e.actions as u64, &mut ranks);
-    let mut before = [0u64; 128];
+    let mut before = [0u64; 64];
     let ranked = renaming::rename_all(members, words, &ranks[..e.actions], &mut before);
-    stages::take_few(ranked, e.total, &ranks[..e.actions], &mut before, room)
+    stages::take_few(ranked, e.total, &ranks[..e.actions], &before, room)
 }
 
 // Many: the same, from a copy of the counts.

@@ -2,10 +2,9 @@
 -- Assumes nothing.
 use mathlib.Core.Path.{_≡_}
 use mathlib.Core.List.{List}
-use Prim.Native.Nat.{ℕ, _+_, _≤_, _<_}
+use Prim.Native.Nat.{ℕ, _<_}
 use native.Mathlib.Omega.{arith}
 use lib.ListN.{length, getD, take, drop}
-use lib.Seq.{getD-take, getD-drop}
 use Rattle.ranks.specs.Ranks.{RankList, Turned}
 use Rattle.ranks.proofs.Entries.{entry-of-rank-list-below}
 use Rattle.study.specs.Study.{Study}
@@ -15,7 +14,7 @@ use Rattle.orders.proofs.Renamed.{Ranked, greedy-renamed, counted-renamed}
 use Rattle.walks.specs.Walks.{OnAWalk, ComesBefore}
 use Rattle.walks.proofs.Leads.{on-walk-usable}
 use Rattle.ordering.specs.Ordering.{Ordered, Orderable}
-use Rattle.hanging.specs.Hanging.{beforeIn, hungIn, InWord, DirectlyBefore, NoneHung, TakenByName}
+use Rattle.hanging.specs.Hanging.{InWord, DirectlyBefore, TakenByName}
 use Rattle.taking.specs.Taking.{TakenGreedily}
 use Rattle.stages.specs.Whole.{Walking, Orderly}
 use Rattle.stages.proofs.Stages.{walking-wishes, walking-rowed, own-length}
@@ -37,27 +36,19 @@ pub rank-below : {ranks : List ℕ} {a : ℕ} → RankList a ranks → (i : ℕ)
 rank-below list = entry-of-rank-list-below (own-length list)
 
 module _
-    {t : Study} {total : ℕ} {ranks : List ℕ} (orderly : Orderly total t) (list : RankList (length (t .actions)) ranks) (few : length ranks ≤ 64)
+    {t : Study} {total : ℕ} {ranks : List ℕ} (orderly : Orderly total t) (list : RankList (length (t .actions)) ranks)
     {members : ℕ} {words names : List ℕ} (ordered : Ordered t ranks members words) (turned : Turned ranks names)
   where
     as-many : length ranks ≡ length (t .actions)
     as-many = list .an-entry-for-each
 
-    walk-rank : {i : ℕ} → OnAWalk t i → getD ranks i 0 < 64
-    walk-rank {i} on = omega (arith, rank-below list i (omega (arith, on-walk-usable on, as-many)))
-
-    pub none-hung : NoneHung (hungIn words)
-    none-hung x y h =
-        let (j, (there, is)) = ordered .named (64 + x) y (rw (getD-drop 64 words x 0) at h) in
-        omega (arith, rank-below list j (omega (arith, as-many)))
-
-    by-rank : Ranked (OnAWalk t) (InWord members) (ComesBefore t) (DirectlyBefore (beforeIn words)) (λ i. getD ranks i 0) (λ r. getD names r 0)
+    by-rank : Ranked (OnAWalk t) (InWord members) (ComesBefore t) (DirectlyBefore words) (λ i. getD ranks i 0) (λ r. getD names r 0)
     by-rank = record {
       there = ordered .member;
       back = ordered .only-members;
       named = λ x m. turned .inverse x (omega (arith, on-walk-usable m, as-many)) .1;
-      comes = λ x y m n b. rw (getD-take 64 words (getD ranks y 0) 0 (walk-rank n)) (ordered .complete x y m n b);
-      came = λ x y m n b. ordered .sound x y m n (rw (getD-take 64 words (getD ranks y 0) 0 (walk-rank n)) at b);
+      comes = ordered .complete;
+      came = ordered .sound;
     }
 
     pub members-counted : Counted (InWord members) total
@@ -70,5 +61,5 @@ module _
           long = orderly .counted;
         }
 
-    pub taken-greedily : {k : ℕ} {room : List ℕ} → TakenByName members (beforeIn words) names k room → TakenGreedily t ranks (take k (drop 256 room))
+    pub taken-greedily : {k : ℕ} {room : List ℕ} → TakenByName members words names k room → TakenGreedily t ranks (take k (drop 256 room))
     taken-greedily by-name = rw (by-name .named) (greedy-renamed by-rank (by-name .list) (by-name .greedy))

@@ -76,20 +76,20 @@ pub fn take_few(
     members: u64,
     total: usize,
     ranks: &[u8],
-    words: &mut [u64; 128],
+    before: &[u64; 64],
     room: &mut [u8; 512],
 ) -> usize
-    requires { ⌜ (length (now words) ≡ 128) × (length (now room) ≡ 512) × (length (now ranks) ≤ 64)
-        × ((t : Study) × RankList (length (t .actions)) (now ranks) × Orderly total t × Ordered t (now ranks) members (now words)) ⌝ }
+    requires { ⌜ (length (now room) ≡ 512) × (length (now ranks) ≤ 64)
+        × ((t : Study) × RankList (length (t .actions)) (now ranks) × Orderly total t × Ordered t (now ranks) members (now before)) ⌝ }
     ensures { λ r. ⌜ (r ≤ total) × (length (now (room .exit)) ≡ 512) ⌝ }
     ensures { λ r. ⌜ ((t : Study)
         → RankList (length (t .actions)) (now (ranks .entry))
         → Orderly total t
-        → Ordered t (now (ranks .entry)) members (now (words .entry))
+        → Ordered t (now (ranks .entry)) members (now (before .entry))
         → Taken t (now (ranks .entry)) total r (now (room .exit))) ⌝ }
 {
     ranking::name_all(ranks, room);
-    hanging::take(members, total, words, room)
+    hanging::take(members, total, before, room)
 }
 
 // Every variable has a walk, and there are few actions.
@@ -109,7 +109,7 @@ fn plan_few(
         → WalkingIn (now (file .entry)) (now (ranks .entry)) n total (now (acts .entry)) (now (vars .entry)) (now (room .entry)) (now (steps .entry)) t
         → InRoom t (now (ranks .entry)) r (now (room .exit))) ⌝ }
 {
-    let mut words = [0u64; 128];
+    let mut before = [0u64; 64];
     let found = ordering::order_all(
         file,
         ranks,
@@ -118,12 +118,12 @@ fn plan_few(
         vars,
         room,
         steps,
-        &mut words,
+        &mut before,
     );
     let Found::Members(members) = found else {
         return handing::unordered(found);
     };
-    let taken = take_few(members, total, ranks, &mut words, room);
+    let taken = take_few(members, total, ranks, &before, room);
     handing::finish(taken, total)
 }
 

@@ -39,11 +39,11 @@ found f y (suc k) = go (ℕ-discrete (f k) y) (found f y k)
 
 -- the first k entries are closed, and all other words are as they were
 pub record ClosedTo (room before words : List ℕ) (k : ℕ) : Type 0 where
-  pub long : length words ≡ 128
+  pub long : length words ≡ 64
   pub closed : (i : ℕ) → i < k → (x : ℕ) → InWord (getD words (entry room i) 0) x ↔ Chained before x (entry room i)
   pub others : (y : ℕ) → ((i : ℕ) → i < k → entry room i ≢ y) → getD words y 0 ≡ getD before y 0
 
-pub closing-begins : (room words : List ℕ) → length words ≡ 128 → ClosedTo room words words 0
+pub closing-begins : (room words : List ℕ) → length words ≡ 64 → ClosedTo room words words 0
 closing-begins room words e = record {
   long = e;
   closed = λ i h. absurd (omega arith);

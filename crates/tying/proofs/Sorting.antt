@@ -7,7 +7,7 @@ use mathlib.Core.List.{List, [], _∷_, map}
 use Prim.Native.Nat.{ℕ, zero, suc, _+_, _<_, _≤_}
 use native.Mathlib.Omega.{arith}
 use native.Mathlib.Decide.{decLt}
-use lib.ListN.{length, getD, take, drop, length-drop}
+use lib.ListN.{length, getD, drop, length-drop, List·getD-eq-default}
 use lib.Seq.{getD-take, getD-drop, length-take-le}
 use Rattle.bits.specs.Bits.{bit}
 use Rattle.bits.proofs.Words.{bit-zero}
@@ -20,7 +20,7 @@ use Rattle.orders.proofs.Standing.{order-stands, stands-before-in}
 use Rattle.orders.proofs.Rings.{ring-bars-orders}
 use Rattle.orders.proofs.Chains.{chain-within}
 use Rattle.linking.specs.Linking.{Anyone}
-use Rattle.hanging.specs.Hanging.{beforeIn, InWord, DirectlyBefore, TakenByName}
+use Rattle.hanging.specs.Hanging.{InWord, DirectlyBefore, TakenByName}
 use Rattle.tying.specs.Tying.{Tied, Low, Among, InPlace, entry, Sorts}
 
 -- ---- what stands before another has a lower place
@@ -38,25 +38,12 @@ stands-place a b (x ∷ list) d (inr s) (suc j) e h =
 
 -- ---- ties as what comes directly before
 
-pub none-past : (n : ℕ) (l : List ℕ) (i : ℕ) → n ≤ i → getD (take n l) i 0 ≡ 0
-none-past zero l i h = refl
-none-past (suc n) [] i h = refl
-none-past (suc n) (x ∷ l) zero h = absurd (omega arith)
-none-past (suc n) (x ∷ l) (suc i) h = none-past n l i (omega arith)
-
-tied-directly : (words : List ℕ) (x y : ℕ) → Tied words x y → DirectlyBefore (beforeIn words) x y
-tied-directly words x y (low, w) = rw (getD-take 64 words y 0 low) w
-
-directly-tied : (words : List ℕ) (x y : ℕ) → DirectlyBefore (beforeIn words) x y → Tied words x y
-directly-tied words x y w = go (decLt y 64)
+directly-tied : (words : List ℕ) → length words ≡ 64 → (x y : ℕ) → DirectlyBefore words x y → Tied words x y
+directly-tied words long x y w = go (decLt y 64)
   where
     go : Dec (y < 64) → Tied words x y
-    go (yes low) = (low, rw (getD-take 64 words y 0 low) at w)
-    go (no h) = absurd (false≢true (sym (bit-zero x) ∙ rw (none-past 64 words y (omega arith)) at w))
-
--- where the words are the same, so are the ties
-pub ties-kept : (words words′ : List ℕ) → beforeIn words ≡ beforeIn words′ → (x y : ℕ) → Tied words x y → Tied words′ x y
-ties-kept words words′ e x y t = directly-tied words′ x y (rw e at (tied-directly words x y t))
+    go (yes low) = (low, w)
+    go (no h) = absurd (false≢true (sym (bit-zero x) ∙ rw (List·getD-eq-default words 0 {n = y} (omega (arith, long))) at w))
 
 is-decided : (b : Bool) → Dec (b ≡ true)
 is-decided true = yes refl
@@ -74,13 +61,13 @@ same-places names places (x ∷ l) f = rw (places x (f x (inl refl)), same-place
 
 module _
     (members : ℕ) {total : ℕ} (words : List ℕ) {names room : List ℕ} {k : ℕ} (all : Counted (InWord members) total)
-    (few : k ≤ 256) (sized : length room ≡ 512) (taken : TakenByName members (beforeIn words) names k room)
+    (few : k ≤ 256) (sized : length room ≡ 512) (taken : TakenByName members words names k room)
   where
     abbrev list : List ℕ
     list = taken .list
 
     abbrev Before : ℕ → ℕ → Type 0
-    Before = DirectlyBefore (beforeIn words)
+    Before = DirectlyBefore words
 
     takes : Takes (InWord members) Before None list
     takes = greedy-so-far-takes (InWord members) Before (λ x. x) None list (greedy-so-far (InWord members) Before (λ x. x) None list (taken .greedy))
@@ -91,14 +78,14 @@ module _
         ∙ length-take-le k (drop 256 room) (omega (arith, length-drop 256 room))
 
     -- fewer than all: some are on a ring
-    pub fewer-is-circle : k < total → (x : ℕ) × OnRing Anyone (Tied words) x
-    fewer-is-circle h =
+    pub fewer-is-circle : length words ≡ 64 → k < total → (x : ℕ) × OnRing Anyone (Tied words) x
+    fewer-is-circle long h =
         let (x, (i, n)) = fewer-miss-one list (all .list) (all .once) (omega (arith, as-many, all .long)) in
         let (y, ring) =
-        stuck-has-ring (InWord members) Before (all .list) (all .all) (all .only) (λ a b. is-decided (bit (getD (beforeIn words) b 0) a)) list takes
+        stuck-has-ring (InWord members) Before (all .list) (all .all) (all .only) (λ a b. is-decided (bit (getD words b 0) a)) list takes
         (none-ready-same (InWord members) Before (by-all list) (greedy-none-ready (InWord members) Before (λ x. x) None list (taken .greedy)))
         x (all .only x i) n in
-        (y, chain-within (λ a b _ _ d. (tt, (tt, directly-tied words a b d))) ring)
+        (y, chain-within (λ a b _ _ d. (tt, (tt, directly-tied words long a b d))) ring)
 
     -- all
     module _ (every : total ≤ k) (among : Among members words) where
@@ -112,7 +99,7 @@ module _
       pub none-circled : (x : ℕ) → OnRing Anyone (Tied words) x → ⊥
       none-circled x ring =
           ring-bars-orders (InWord members) Before list
-          (chain-within (λ a b _ _ t. let (m, n) = among a b t in (m, (n, tied-directly words a b t))) ring) in-order
+          (chain-within (λ a b _ _ t. let (m, n) = among a b t in (m, (n, t .1))) ring) in-order
 
       module _ (most : k ≤ total) (places : InPlace names) (lows : Low members) where
         list-low : (x : ℕ) → In x list → x < 64
@@ -136,7 +123,7 @@ module _
               behind = λ x j h t.
                   let (m, n) = among x (entry room j) t in
                   let (i, (b, e)) =
-                  stands-place x (entry room j) list (stands .none-twice) (stands .keeps-before x (entry room j) m n (tied-directly words x (entry room j) t)) j (sym (named j h))
+                  stands-place x (entry room j) list (stands .none-twice) (stands .keeps-before x (entry room j) m n (t .1)) j (sym (named j h))
                   (omega (arith, as-many)) in
                   (i, (b, named i (omega arith) ∙ e));
             }

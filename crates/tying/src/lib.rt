@@ -5,7 +5,7 @@ ghost use Prim.Native.Nat.{ℕ, _≤_};
 ghost use lib.ListN.{length};
 ghost use Rattle.orders.specs.Orders.{Counted, Chain};
 ghost use Rattle.linking.specs.Linking.{Anyone, ClosesTo};
-ghost use Rattle.hanging.specs.Hanging.{hungIn, InWord, NoneHung};
+ghost use Rattle.hanging.specs.Hanging.{InWord};
 ghost use Rattle.tying.specs.Tying.{InPlace, Tied, Low, Among, Sorts, Gathered};
 use linking::Closed;
 
@@ -25,7 +25,7 @@ pub fn number_all(room: &mut [u8])
 }
 
 // The word, and what is tied before those that are in it.
-fn gathered(word: u64, words: &[u64; 128]) -> u64
+fn gathered(word: u64, words: &[u64; 64]) -> u64
     ensures { λ r. ⌜ Gathered word (now (words .entry)) r ⌝ }
 {
     let mut all = word;
@@ -39,8 +39,8 @@ fn gathered(word: u64, words: &[u64; 128]) -> u64
 }
 
 // Gathers for one number after another, in an order in which what is tied before another comes first.
-fn gather_all(total: usize, room: &[u8; 512], words: &mut [u64; 128])
-    requires { ⌜ (total ≤ 256) × (length (now room) ≡ 512) × (length (now words) ≡ 128) × Sorts (now room) total (now words) ⌝ }
+fn gather_all(total: usize, room: &[u8; 512], words: &mut [u64; 64])
+    requires { ⌜ (total ≤ 256) × (length (now room) ≡ 512) × (length (now words) ≡ 64) × Sorts (now room) total (now words) ⌝ }
     ensures { λ _. ⌜ ((x y : ℕ) → Tied (now (words .exit)) x y ↔ Chain Anyone (Tied (now (words .entry))) x y) ⌝ }
 {
     let mut k = 0;
@@ -51,14 +51,14 @@ fn gather_all(total: usize, room: &[u8; 512], words: &mut [u64; 128])
     }
 }
 
-// Numbers that are tied, all of them members. The words behind theirs are used up, and so is the room.
-pub fn close(members: u64, total: usize, words: &mut [u64; 128], room: &mut [u8; 512]) -> Closed
-    requires { ⌜ (total ≤ 256) × (length (now words) ≡ 128) × Counted (InWord members) total × NoneHung (hungIn (now words))
+// Numbers that are tied, all of them members. The room is used up.
+pub fn close(members: u64, total: usize, words: &mut [u64; 64], room: &mut [u8; 512]) -> Closed
+    requires { ⌜ (total ≤ 256) × (length (now words) ≡ 64) × Counted (InWord members) total
         × Among members (now words) × Low members × (length (now room) ≡ 512) ⌝ }
     ensures { λ r. ⌜ ClosesTo (Tied (now (words .entry))) (Tied (now (words .exit))) r ⌝ }
 {
     number_all(room);
-    let taken = hanging::take(members, total, words, room);
+    let taken = hanging::take_looking(members, total, words, room);
     if taken < total {
         return Closed::Circle;
     }

@@ -1,13 +1,13 @@
 -- At most 64 actions, each with its own number as rank: what is ordered and taken tells the walk actions, the direct orders, and whether there is a plan.
 -- Assumes nothing.
-use Prim.Native.Nat.{ℕ, zero, suc, _+_, _≤_, _<_}
+use Prim.Native.Nat.{ℕ, zero, suc, _≤_, _<_}
 use native.Mathlib.Omega.{arith}
-use mathlib.Core.Path.{_≡_, refl, sym, ap, _∙_}
+use mathlib.Core.Path.{_≡_, refl, sym, _∙_}
 use mathlib.Core.Logic.{_↔_}
 use mathlib.Core.Bool.{Bool, true, false, false≢true}
 use mathlib.Core.List.{List, [], _∷_, _++_}
 use lib.ListN.{length, getD, take, replicate}
-use lib.Seq.{take-suc, getD-take, getD-drop}
+use lib.Seq.{take-suc}
 use Rattle.bits.specs.Bits.{bit}
 use Rattle.plain.proofs.Lists.{all-zeros}
 use Rattle.bits.proofs.Words.{bit-zero}
@@ -22,7 +22,7 @@ use Rattle.walks.specs.Walks.{OnAWalk, ComesBefore}
 use Rattle.walks.proofs.Leads.{on-walk-usable}
 use Rattle.tables.specs.Tables.{ActionTables}
 use Rattle.ordering.specs.Ordering.{Ordered}
-use Rattle.hanging.specs.Hanging.{beforeIn, hungIn, InWord, NoneHung}
+use Rattle.hanging.specs.Hanging.{InWord}
 use Rattle.tying.specs.Tying.{InPlace, Low}
 use Rattle.stages.specs.Whole.{Known, Given}
 use Rattle.stages.proofs.Stages.{known-given}
@@ -70,32 +70,25 @@ module _
     pub word-low : Low members
     word-low i m = omega (arith, walk-low i (member-walks i m))
 
-    module _ (words′ : List ℕ) (same : beforeIn words′ ≡ beforeIn words) where
-      kept : (j : ℕ) → j < 64 → getD words′ j 0 ≡ getD words j 0
-      kept j h = sym (getD-take 64 words′ j 0 h) ∙ ap (λ (l : List ℕ). getD l j 0) same ∙ getD-take 64 words j 0 h
+    pub word-directs : (i j : ℕ) → Wanted members words i j ↔ Direct t i j
+    word-directs i j = (there, back)
+      where
+        there : Wanted members words i j → Direct t i j
+        there (m, n, w) =
+            let one = member-walks i m in
+            let other = member-walks j n in
+            record {
+              one = one;
+              other = other;
+              comes-before = ordered .sound i j one other (rw (own-rank i (walk-low i one), own-rank j (walk-low j other)) w);
+            }
 
-      pub word-directs : (i j : ℕ) → Wanted members words′ i j ↔ Direct t i j
-      word-directs i j = (there, back)
-        where
-          there : Wanted members words′ i j → Direct t i j
-          there (m, n, w) =
-              let one = member-walks i m in
-              let other = member-walks j n in
-              record {
-                one = one;
-                other = other;
-                comes-before =
-                    ordered .sound i j one other
-                    (rw (own-rank i (walk-low i one), own-rank j (walk-low j other), ← kept j (omega (arith, walk-low j other))) w);
-              }
-
-          back : Direct t i j → Wanted members words′ i j
-          back d =
-              let low = walk-low j (d .other) in (
-                word-walks i .1 (d .one),
-                word-walks j .1 (d .other),
-                rw (kept j (omega arith)) (rw (own-rank i (walk-low i (d .one)), own-rank j low) at (ordered .complete i j (d .one) (d .other) (d .comes-before))),
-              )
+        back : Direct t i j → Wanted members words i j
+        back d = (
+          word-walks i .1 (d .one),
+          word-walks j .1 (d .other),
+          rw (own-rank i (walk-low i (d .one)), own-rank j (walk-low j (d .other))) at (ordered .complete i j (d .one) (d .other) (d .comes-before)),
+        )
 
 -- ---- where none is amiss, the list has the members
 
@@ -113,10 +106,5 @@ none-amiss-listed {t} members list walks none i = (λ m. there (walks i .0 m) (i
 
 -- ---- ties made anew
 
-pub fresh-untied : Untied (replicate 128 0)
-fresh-untied x y (low, w) = false≢true (sym (bit-zero x) ∙ rw (all-zeros 128 y) at w)
-
--- .. and nothing hangs where the words behind them are as they were
-pub still-none-hung : (ties : List ℕ) → ((j : ℕ) → 64 ≤ j → getD ties j 0 ≡ getD (replicate 128 0) j 0) → NoneHung (hungIn ties)
-still-none-hung ties kept x y w =
-    false≢true (sym (bit-zero y) ∙ rw (getD-drop 64 ties x 0, kept (64 + x) (omega arith), all-zeros 128 (64 + x)) at w)
+pub fresh-untied : Untied (replicate 64 0)
+fresh-untied x y (low, w) = false≢true (sym (bit-zero x) ∙ rw (all-zeros 64 y) at w)

@@ -58,7 +58,7 @@ pub fn told(lack: Lack, actions: usize, pairs: usize) -> Answer
 fn vet_ties(
     total: usize,
     members: u64,
-    words: &[u64; 128],
+    words: &[u64; 64],
     actions: &[u8],
     pairs: &[u8],
     room: &mut [u8; 512],
@@ -69,7 +69,7 @@ fn vet_ties(
         → Listed t (chartOf (now (actions .entry)) (now (pairs .entry)))
         → Charts t (chartOf (now (actions .entry)) (now (pairs .entry))) r) ⌝ }
 {
-    let mut ties = [0u64; 128];
+    let mut ties = [0u64; 64];
     let many = listing::many_pairs(pairs.len());
     let k = comparing::tie_all(pairs, members, &mut ties);
     if k < many {
@@ -89,7 +89,7 @@ fn vet_words(
     total: usize,
     acts: &[[u8; 6]; 256],
     members: u64,
-    words: &[u64; 128],
+    words: &[u64; 64],
     actions: &[u8],
     pairs: &[u8],
     room: &mut [u8; 512],
@@ -127,9 +127,9 @@ fn order_words(
     vars: &[[u8; 3]; 32],
     setters: &mut [u8; 512],
     steps: &[u16; 512],
-    words: &mut [u64; 128],
+    words: &mut [u64; 64],
 ) -> Readied
-    requires { ⌜ (length (now words) ≡ 128) × AllZero (now words) × (count ≤ 64) × (length (now setters) ≡ 512)
+    requires { ⌜ (length (now words) ≡ 64) × AllZero (now words) × (count ≤ 64) × (length (now setters) ≡ 512)
         × ((t : Study) × (n : ℕ) × WalkingIn (now file) (rising count) n total (now acts) (now vars) (now setters) (now steps) t) ⌝ }
     ensures { λ r. ⌜ length (now (setters .exit)) ≡ 512 ⌝ }
     ensures { λ r. ⌜ ((t : Study) (n : ℕ)
@@ -152,7 +152,7 @@ fn order_words(
         return Readied::Refused(handing::unordered(found));
     };
     tying::number_all(setters);
-    let taken = hanging::take(members, total, words, setters);
+    let taken = hanging::take_looking(members, total, words, setters);
     if taken < total {
         return Readied::Refused(numbers(12, taken, 0));
     }
@@ -167,9 +167,9 @@ fn ready(
     acts: &[[u8; 6]; 256],
     vars: &[[u8; 3]; 32],
     setters: &mut [u8; 512],
-    words: &mut [u64; 128],
+    words: &mut [u64; 64],
 ) -> Readied
-    requires { ⌜ (length (now words) ≡ 128) × AllZero (now words) × (count ≤ 64) × (length (now setters) ≡ 512)
+    requires { ⌜ (length (now words) ≡ 64) × AllZero (now words) × (count ≤ 64) × (length (now setters) ≡ 512)
         × ((t : Study) × (x : ℕ) × KnownIn (now file) n count x (now acts) (now vars) (now setters) t) ⌝ }
     ensures { λ r. ⌜ length (now (setters .exit)) ≡ 512 ⌝ }
     ensures { λ r. ⌜ ((t : Study) (x : ℕ)
@@ -201,7 +201,7 @@ pub fn chart_few(
         → KnownIn (now (file .entry)) n count x (now (acts .entry)) (now (vars .entry)) (now (setters .entry)) t
         → Charts t (chartOf (now (actions .entry)) (now (pairs .entry))) r) ⌝ }
 {
-    let mut words = [0u64; 128];
+    let mut words = [0u64; 64];
     let readied = ready(file, n, count, acts, vars, setters, &mut words);
     match readied {
         Readied::Refused(answer) => answer,

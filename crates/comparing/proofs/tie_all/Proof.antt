@@ -1,11 +1,9 @@
 -- `comparing::tie_all` meets its contract: each turn passes one pair.
 -- Assumes nothing.
-use mathlib.Core.Path.{_≡_, refl, sym, _∙_}
-use mathlib.Core.List.{List}
-use Prim.Native.Nat.{ℕ, _-_, _≤_, _<_}
+use mathlib.Core.Path.{_≡_, _∙_}
+use Prim.Native.Nat.{_-_}
 use native.Mathlib.Omega.{arith}
-use lib.ListN.{length, getD, length-set}
-use lib.Seq.{getD-set-other}
+use lib.ListN.{length, length-set}
 use Rattle.tying.specs.Tying.{Tied}
 use Rattle.listing.proofs.Linking.{PassedTo, none-passed, breaks-off, goes-on, ends}
 use Rattle.comparing.specs.Comparing.{ListedIn}
@@ -15,13 +13,13 @@ use Rattle.comparing.proofs.tie_all.Statement.{statement}
 use Rattle.comparing.proofs.tie_all.Tie as tie
 
 abbrev Inv-loop : tie.InvT-loop
-Inv-loop pairs members ties₀ at₀ k₀ ties at k = (length ties ≡ 128) × ((j : ℕ) → 64 ≤ j → getD ties j 0 ≡ getD ties₀ j 0) × PassedTo pairs (λ list. ListedIn list members) (Tied ties) at k
+Inv-loop pairs members ties₀ at₀ k₀ ties at k = (length ties ≡ 64) × PassedTo pairs (λ list. ListedIn list members) (Tied ties) at k
 
 abbrev μ-loop : tie.MeasureT-loop
 μ-loop pairs members ties₀ at₀ k₀ ties at k = length pairs - at
 
 loop-holds : tie.Need-loop-holds Inv-loop μ-loop
-loop-holds c = (c .before .pre .0, λ j h. refl, none-passed (c .before .pre .2))
+loop-holds c = (c .before .pre .0, none-passed (c .before .pre .2))
 
 sub-loop : tie.Need-sub-loop Inv-loop μ-loop
 sub-loop c = search needs
@@ -42,8 +40,8 @@ returns : tie.Need-returns Inv-loop μ-loop
 returns c =
     let s = c .before in
     let d = s .before .before .before in
-    let (long, past, passed) = d .before .loop .inv in
-    ((long, past), breaks-off passed (omega arith) (rw (c .if1 .taken) at (s .stray .ensures .1)))
+    let (long, passed) = d .before .loop .inv in
+    (long, breaks-off passed (omega arith) (rw (c .if1 .taken) at (s .stray .ensures .1)))
 
 cast-j : tie.Need-cast-j Inv-loop μ-loop
 cast-j c = omega (arith, c .before .stray .ensures .0 (c .if1 .left) .1)
@@ -76,18 +74,17 @@ loop-again : tie.Need-loop-again Inv-loop μ-loop
 loop-again c =
     let s = c .before .before .before in
     let d = s .before .before .before in
-    let (long, past, passed) = d .before .loop .inv in
+    let (long, passed) = d .before .loop .inv in
     let ties = d .before .loop .ties in
     let (low, low′) = s .stray .ensures .0 (c .before .before .if1 .left) in (
       length-set ties _ _ ∙ long,
-      λ j h. getD-set-other ties _ j _ 0 (λ e. omega arith) ∙ past j h,
       goes-on passed (omega arith) (rw (c .before .before .if1 .left) at (s .stray .ensures .1)) (ties-more ties _ _ _ low′ (omega arith) (c .with-bit .ensures)),
     )
 
 returns-2 : tie.Need-returns-2 Inv-loop μ-loop
 returns-2 c =
-    let (long, past, passed) = c .before .loop .inv in
-    ((long, past), ends passed (omega arith))
+    let (long, passed) = c .before .loop .inv in
+    (long, ends passed (omega arith))
 
 pub tie-all-spec : {M : Type 1} → statement M
 tie-all-spec =

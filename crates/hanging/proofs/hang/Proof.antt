@@ -1,15 +1,10 @@
 -- `hanging::hang` meets its contract: with nothing missing the number is ready, else it hangs on the lowest that is missing.
 -- Assumes nothing.
-use mathlib.Core.Path.{_≡_, refl, _∙_}
-use mathlib.Core.Bool.{_&&_}
-use Prim.Native.Nat.{ℕ}
+use mathlib.Core.Path.{_∙_}
 use native.Mathlib.Omega.{arith}
-use lib.ListN.{getD, length-set, length-drop}
-use lib.Seq.{getD-take, getD-drop}
+use lib.ListN.{length-set}
+use denote.Ref.{now}
 use borrow.Author.Needs.{needs}
-use Rattle.plain.proofs.Lists.{drop-set, take-set}
-use Rattle.bits.specs.Bits.{bit}
-use Rattle.hanging.specs.Hanging.{beforeIn, hungIn}
 use Rattle.hanging.proofs.Settling.{hangs-free, hangs-on}
 use Rattle.hanging.proofs.hang.Statement.{statement}
 use Rattle.hanging.proofs.hang.Tie as tie
@@ -26,19 +21,12 @@ common-requires c κs = search needs
 with-bit-requires : tie.Need-with-bit-requires
 with-bit-requires c κs = search needs
 
--- what is missing is left and comes directly before
-missing-is : (d : tie.After-common) (j : ℕ)
-    → let s = d .before .before in bit (d .common .result) j ≡ (bit (getD (beforeIn (s .args .words .now)) (s .args .y) 0) j && bit (s .args .left) j)
-missing-is d j =
-    let s = d .before .before in
-    rw (getD-take 64 (s .args .words .now) (s .args .y) 0 (s .pre .0)) (d .common .ensures j)
-
 returns : tie.Need-returns
 returns c =
     let d = c .before .before in
     let s = d .before .before in (
-      (s .pre .1, refl),
-      hangs-free (s .args .y) (beforeIn (s .args .words .now)) (s .args .left) (s .args .ready) (d .common .result) _ (missing-is d)
+      s .pre .1,
+      hangs-free (s .args .y) (now (s .args .before)) (s .args .left) (s .args .ready) (d .common .result) _ (d .common .ensures)
           (c .before .if1 .taken) (c .with-bit .result) (c .with-bit .ensures),
     )
 
@@ -47,9 +35,6 @@ lowest-requires c κs = search needs
 
 cast-x : tie.Need-cast-x
 cast-x c = search needs
-
-add-with-bit : tie.Need-add-with-bit
-add-with-bit c = search needs
 
 mul-with-bit : tie.Need-mul-with-bit
 mul-with-bit c = search needs
@@ -60,27 +45,22 @@ element-copy-out-with-bit c = search needs
 with-bit-requires-2 : tie.Need-with-bit-requires-2
 with-bit-requires-2 c κs = search needs
 
-add-words : tie.Need-add-words
-add-words c = search needs
+mul-hung : tie.Need-mul-hung
+mul-hung c = search needs
 
-mul-words : tie.Need-mul-words
-mul-words c = search needs
-
-element-write-words : tie.Need-element-write-words
-element-write-words c = search needs
+element-write-hung : tie.Need-element-write-hung
+element-write-hung c = search needs
 
 returns-2 : tie.Need-returns-2
 returns-2 c =
     let l = c .before .before in
     let d = l .before .before in
     let s = d .before .before in
-    let words = s .args .words .now in
-    let x = l .lowest .result in (
-      (length-set words _ _ ∙ s .pre .1, take-set 64 x words _),
-      rw (drop-set 64 x words (c .with-bit2 .result))
-          (hangs-on (s .args .y) (beforeIn words) (s .args .left) (s .args .ready) (d .common .result) (hungIn words) (missing-is d)
-          x (c .with-bit2 .result) (l .lowest .ensures .there) (omega (arith, l .lowest .ensures .room, length-drop 64 words, s .pre .1))
-          (λ j. rw (getD-drop 64 words x 0) (c .with-bit2 .ensures j))),
+    let hung = now (s .args .hung) in (
+      length-set hung _ _ ∙ s .pre .1,
+      hangs-on (s .args .y) (now (s .args .before)) (s .args .left) (s .args .ready) (d .common .result) hung (d .common .ensures)
+          (l .lowest .result) (c .with-bit2 .result) (l .lowest .ensures .there) (omega (arith, l .lowest .ensures .room, s .pre .1))
+          (c .with-bit2 .ensures),
     )
 
 pub hang-spec : {M : Type 1} → statement M
@@ -94,11 +74,9 @@ hang-spec =
     returns
     lowest-requires
     cast-x
-    add-with-bit
     mul-with-bit
     element-copy-out-with-bit
     with-bit-requires-2
-    add-words
-    mul-words
-    element-write-words
+    mul-hung
+    element-write-hung
     returns-2)

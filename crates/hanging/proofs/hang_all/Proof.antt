@@ -1,28 +1,27 @@
 -- `hanging::hang_all` meets its contract: the numbers of the word are settled one after another, and fewer are left each time.
 -- Assumes nothing.
 use mathlib.Core.Bool.{false≢true}
-use mathlib.Core.Path.{_≡_, refl, sym, ap, _∙_}
+use mathlib.Core.Path.{_≡_, sym, ap, _∙_}
 use lib.ListN.{length}
+use denote.Ref.{now}
 use borrow.Author.Needs.{needs}
 use Rattle.bits.specs.Bits.{bit}
 use Rattle.bits.proofs.Words.{bit-zero}
 use Rattle.bits.proofs.Counted.{counted, counted-falls}
-use Rattle.hanging.specs.Hanging.{beforeIn, hungIn}
 use Rattle.hanging.proofs.Settling.{SettledTo, settled-begins, settled-on, settled-all}
 use Rattle.hanging.proofs.hang_all.Statement.{statement}
 use Rattle.hanging.proofs.hang_all.Tie as tie
 
 abbrev Inv-loop : tie.InvT-loop
-Inv-loop some left ready words₀ rest₀ free₀ words rest free =
-    (length words ≡ 128) × (beforeIn words ≡ beforeIn words₀) × SettledTo some rest (beforeIn words₀) left ready (hungIn words₀) free (hungIn words)
+Inv-loop some left ready before hung₀ rest₀ free₀ hung rest free = (length hung ≡ 64) × SettledTo some rest before left ready hung₀ free hung
 
 abbrev μ-loop : tie.MeasureT-loop
-μ-loop some left ready words₀ rest₀ free₀ words rest free = counted (bit rest) 64
+μ-loop some left ready before hung₀ rest₀ free₀ hung rest free = counted (bit rest) 64
 
 loop-holds : tie.Need-loop-holds Inv-loop μ-loop
 loop-holds c =
     let a = c .args in
-    (c .pre, refl, settled-begins (a .some) (beforeIn (a .words .now)) (a .left) (a .ready) (hungIn (a .words .now)))
+    (c .pre, settled-begins (a .some) (now (a .before)) (a .left) (a .ready) (now (a .hung)))
 
 lowest-requires : tie.Need-lowest-requires Inv-loop μ-loop
 lowest-requires c κs = search needs
@@ -47,16 +46,14 @@ loop-again c =
     let w = c .before .before in
     let l = w .before in
     let inv = l .before .before .loop .inv in (
-      c .hang .ensures .0 .0,
-      c .hang .ensures .0 .1 ∙ inv .1,
-      settled-on (inv .2) (l .lowest .result) (l .lowest .ensures .there) (w .without-bit .result) (w .without-bit .ensures)
-          (rw (inv .1) at (c .hang .ensures .1)),
+      c .hang .ensures .0,
+      settled-on (inv .1) (l .lowest .result) (l .lowest .ensures .there) (w .without-bit .result) (w .without-bit .ensures) (c .hang .ensures .1),
     )
 
 returns : tie.Need-returns Inv-loop μ-loop
 returns c =
     let inv = c .before .loop .inv in
-    ((inv .0, inv .1), settled-all (inv .2) (λ y h. false≢true (sym (bit-zero y) ∙ ap (λ n. bit n y) (sym (c .loop-test .left)) ∙ h)))
+    (inv .0, settled-all (inv .1) (λ y h. false≢true (sym (bit-zero y) ∙ ap (λ n. bit n y) (sym (c .loop-test .left)) ∙ h)))
 
 pub hang-all-spec : {M : Type 1} → statement M
 hang-all-spec =

@@ -15,7 +15,7 @@ use Rattle.renaming.proofs.rename_all.Tie as tie
 
 abbrev Inv-loop : tie.InvT-loop
 Inv-loop members words ranks under₀ rest₀ under rest =
-    (length under ≡ 128) × ((i : ℕ) → bit rest i ≡ true → bit members i ≡ true)
+    (length under ≡ 64) × ((i : ℕ) → bit rest i ≡ true → bit members i ≡ true)
     × (((j : ℕ) → getD under₀ j 0 ≡ 0) → RewordedTo members rest words ranks under)
 
 abbrev μ-loop : tie.MeasureT-loop

@@ -49,10 +49,9 @@ take-few-requires c κs =
     let s = d .before .before in
     let (t, once) = s .pre .4 in
     let list = front-list (s .args .seed) (s .args .e .actions) (s .pre .2) (s .pre .3) (omega (arith, s .pre .1)) (replicate 64 0) _ (s .pre .1) (d .draw .ensures .1) in (
-      n .rename-all .ensures .0 .0,
       s .pre .0,
       omega (arith, list .an-entry-for-each, s .pre .1),
-      (t, list-of once list, once .orderly, once-ordered once list (n .rename-all .ensures .0 .1) (n .rename-all .ensures .1 (all-zeros 128))),
+      (t, list-of once list, once .orderly, once-ordered once list (n .rename-all .ensures .0 .1) (n .rename-all .ensures .1 (all-zeros 64))),
     )
 
 returns : tie.Need-returns
@@ -66,7 +65,7 @@ returns c =
       λ t once.
           rw (front, once .actions) at
           (c .take-few .ensures .1 t (list-of once list) (once .orderly)
-          (once-ordered once list (n .rename-all .ensures .0 .1) (n .rename-all .ensures .1 (all-zeros 128)))),
+          (once-ordered once list (n .rename-all .ensures .0 .1) (n .rename-all .ensures .1 (all-zeros 64)))),
     )
 
 pub take-few-by-spec : {M : Type 1} → statement M

@@ -31,7 +31,7 @@ returns c =
     let o = c .before .before .before in (
       o .before .before .before .before .before .pre .0,
       λ t n walking.
-          let off = rw e at (o .order-all .ensures .1 t (walking-orderable walking) (list-apart (walking-ranks walking)) (all-zeros 128)) in
+          let off = rw e at (o .order-all .ensures .1 t (walking-orderable walking) (list-apart (walking-ranks walking)) (all-zeros 64)) in
           rw (c .unordered .ensures ∙ ap notOrdered e) (walking-off walking off),
     )
 
@@ -41,8 +41,8 @@ take-few-requires c κs =
     let o = f .before .before in
     let s = o .before .before .before .before .before in
     let (t, n, walking) = s .pre .2 in
-    let (met, ordered) = rw (f .found .given .1) at (o .order-all .ensures .1 t (walking-orderable walking) (list-apart (walking-ranks walking)) (all-zeros 128)) in
-    (o .order-all .ensures .0, s .pre .0, s .pre .1, (t, walking-ranks walking, walking-orderly walking met, ordered))
+    let (met, ordered) = rw (f .found .given .1) at (o .order-all .ensures .1 t (walking-orderable walking) (list-apart (walking-ranks walking)) (all-zeros 64)) in
+    (s .pre .0, s .pre .1, (t, walking-ranks walking, walking-orderly walking met, ordered))
 
 finish-requires : tie.Need-finish-requires
 finish-requires c κs = c .take-few .ensures .0 .0
@@ -54,7 +54,7 @@ returns-2 c =
     let o = f .before .before in (
       k .take-few .ensures .0 .1,
       λ t n walking.
-          let (met, ordered) = rw (f .found .given .1) at (o .order-all .ensures .1 t (walking-orderable walking) (list-apart (walking-ranks walking)) (all-zeros 128)) in
+          let (met, ordered) = rw (f .found .given .1) at (o .order-all .ensures .1 t (walking-orderable walking) (list-apart (walking-ranks walking)) (all-zeros 64)) in
           c .finish .ensures t _ _ (k .take-few .ensures .0 .1) (k .take-few .ensures .1 t (walking-ranks walking) (walking-orderly walking met) ordered),
     )
 

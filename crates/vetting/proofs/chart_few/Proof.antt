@@ -29,7 +29,7 @@ module _ (r : tie.After-ready) where
 ready-requires : tie.Need-ready-requires
 ready-requires c κs =
     let s = c .before .before .before .before .before in
-    (refl, all-zeros 128, s .pre .0, s .pre .1, s .pre .2)
+    (refl, all-zeros 64, s .pre .0, s .pre .1, s .pre .2)
 
 enum-known-readied : tie.Need-enum-known-readied
 enum-known-readied c = search needs

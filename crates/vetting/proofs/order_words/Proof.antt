@@ -20,7 +20,7 @@ use Rattle.handing.specs.Handing.{Taken}
 use Rattle.handing.proofs.Outcomes.{fewer-is-ring, fits}
 use Rattle.stages.specs.Whole.{WalkingIn, Orderly}
 use Rattle.stages.proofs.Stages.{rowed-walks, all-few, walking-ranks, walking-orderly, orderly-taken}
-use Rattle.stages.proofs.Few.{walking-orderable, members-counted, none-hung, taken-greedily}
+use Rattle.stages.proofs.Few.{walking-orderable, members-counted, taken-greedily}
 use Rattle.charts.specs.Answers.{off-walk}
 use Rattle.vetting.specs.Words.{InWords}
 use Rattle.vetting.proofs.Few.{ranks-rising, room-turned, word-walks, word-low, word-directs}
@@ -42,9 +42,6 @@ module _ (n : tie.After-number-all) where
 
   own-of : (i : ℕ) → i < start-of .args .count → getD (take (start-of .args .count) ranks-of) i 0 ≡ i
   own-of i h = rw front-of (getD-rising (start-of .args .count) i h)
-
-  few-of : length (rising (start-of .args .count)) ≤ 64
-  few-of = omega (arith, length-rising (start-of .args .count), start-of .pre .2)
 
   -- the tables hold a study whose walks are entered
   abbrev Walking-of : Study → ℕ → Type 0
@@ -100,10 +97,10 @@ module _ (m : tie.After-number-all2) where
     orderly = walking-orderly walking (ordered-of found-of t v walking .0)
 
     counted : Counted (InWord (found-of .found .given .0 .0)) (args-of .args .total)
-    counted = members-counted orderly (walking-ranks walking) (few-of numbered-of) ordered turned-of
+    counted = members-counted orderly (walking-ranks walking) ordered turned-of
 
 -- .. and taken
-module _ (k : tie.After-take) where
+module _ (k : tie.After-take-looking) where
   abbrev named-of : tie.After-number-all2
   named-of = k .before .before .before
 
@@ -111,18 +108,17 @@ module _ (k : tie.After-take) where
   given-of = args-of named-of
 
   module _ (t : Study) (v : ℕ) (walking : Walking-of (numbered-of named-of) t v) where
-    taken-of : Taken t (rising (given-of .args .count)) (given-of .args .total) (k .take .result) (k .take .last .1 .1 .1 .0)
+    taken-of : Taken t (rising (given-of .args .count)) (given-of .args .total) (k .take-looking .result) (k .take-looking .last .1 .1 .1 .0)
     taken-of =
         orderly-taken (orderly named-of t v walking) (walking-ranks walking) _ _
-        (taken-greedily (orderly named-of t v walking) (walking-ranks walking) (few-of (numbered-of named-of)) (ordered named-of t v walking) (turned-of named-of)
-        (k .take .ensures .1 .0))
+        (taken-greedily (orderly named-of t v walking) (walking-ranks walking) (ordered named-of t v walking) (turned-of named-of) (k .take-looking .ensures .1))
 
     words-of :
-        given-of .args .total ≤ k .take .result
-        → InWords t (given-of .args .count) (given-of .args .total) (found-of named-of .found .given .0 .0) (outColumn (now (given-of .args .acts))) (k .take .last .1 .1 .0)
+        given-of .args .total ≤ k .take-looking .result
+        → InWords t (given-of .args .count) (given-of .args .total) (found-of named-of .found .given .0 .0) (outColumn (now (given-of .args .acts))) (ordered-words (order-of (found-of named-of)))
     words-of h =
         let held = rw (length-rising (given-of .args .count)) at (walking .actions) in
-        let laid = fits taken-of (k .take .ensures .0 .1) (k .take .ensures .0 .0) h (replicate 256 0) (all-few walking) in
+        let laid = fits taken-of (k .take-looking .ensures .0 .1) (k .take-looking .ensures .0 .0) h (replicate 256 0) (all-few walking) in
         let told = ordered named-of t v walking in
         record {
           plannable = (_, plan-in-front (walking .lawful) (walking .ranked) (replicate 256 0) refl laid refl);
@@ -132,7 +128,7 @@ module _ (k : tie.After-take) where
           counted = counted named-of t v walking;
           low = word-low (given-of .pre .2) (held .count) told;
           walks = word-walks (given-of .pre .2) (held .count) told;
-          directs = word-directs (given-of .pre .2) (held .count) told (k .take .last .1 .1 .0) (k .take .ensures .1 .1 .1);
+          directs = word-directs (given-of .pre .2) (held .count) told;
         }
 
 slice-aggregate-number-all : tie.Need-slice-aggregate-number-all
@@ -182,16 +178,14 @@ returns c =
 number-all-requires-2 : tie.Need-number-all-requires-2
 number-all-requires-2 c κs = omega (arith, start-of (number-of (order-of (c .before .before))) .pre .3)
 
-take-requires : tie.Need-take-requires
-take-requires c κs =
+take-looking-requires : tie.Need-take-looking-requires
+take-looking-requires c κs =
     let m = c .before .before in
     let s = args-of m in
     let (t, v, walking) = s .pre .4 in (
       all-few walking,
-      order-of (found-of m) .order-all .ensures .0,
       m .number-all2 .ensures .0 ∙ s .pre .3,
       counted m t v walking,
-      none-hung (orderly m t v walking) (walking-ranks walking) (few-of (numbered-of m)) (ordered m t v walking) (turned-of m),
     )
 
 numbers-requires : tie.Need-numbers-requires
@@ -200,16 +194,16 @@ numbers-requires c κs = search needs
 returns-2 : tie.Need-returns-2
 returns-2 c =
     let k = c .before .before in (
-      k .take .ensures .0 .1,
+      k .take-looking .ensures .0 .1,
       λ t n walking chart.
           rw (c .numbers .ensures)
           (refused-charts (walking .lawful) (walking .ranked) (replicate 256 0) refl
-          (fewer-is-ring (taken-of k t n walking) (k .take .ensures .0 .1) (k .take .ensures .0 .0) (replicate 256 0) (omega arith)) chart
+          (fewer-is-ring (taken-of k t n walking) (k .take-looking .ensures .0 .1) (k .take-looking .ensures .0 .0) (replicate 256 0) (omega arith)) chart
           (λ e. omega (arith, e))),
     )
 
 returns-3 : tie.Need-returns-3
-returns-3 c = (c .before .take .ensures .0 .1, λ t n walking. words-of (c .before) t n walking (omega arith))
+returns-3 c = (c .before .take-looking .ensures .0 .1, λ t n walking. words-of (c .before) t n walking (omega arith))
 
 pub order-words-spec : {M : Type 1} → statement M
 order-words-spec =
@@ -225,7 +219,7 @@ order-words-spec =
     unordered-requires
     returns
     number-all-requires-2
-    take-requires
+    take-looking-requires
     numbers-requires
     returns-2
     returns-3)

@@ -9,7 +9,7 @@ use denote.Ref.{now}
 use Rattle.tying.specs.Tying.{Tied, Among}
 use Rattle.listing.specs.Listing.{LinksTo}
 use Rattle.charts.specs.Charts.{Chart, chartOf}
-use Rattle.vetting.proofs.Few.{fresh-untied, still-none-hung}
+use Rattle.vetting.proofs.Few.{fresh-untied}
 use Rattle.vetting.proofs.Pairing.{links-leave, links-lead, linked-astray, lacks-same, ring-charts, closed-charts}
 use borrow.Author.Needs.{needs}
 use Rattle.vetting.proofs.vet_ties.Statement.{statement}
@@ -61,7 +61,7 @@ close-requires : tie.Need-close-requires
 close-requires c κs =
     let l = c .before .before .before in
     let p = start-of l .pre in
-    (p .0, l .tie-all .ensures .0 .0, p .1, still-none-hung (ties-of l) (l .tie-all .ensures .0 .1), among-of l (omega arith), p .2, p .4)
+    (p .0, l .tie-all .ensures .0, p .1, among-of l (omega arith), p .2, p .4)
 
 enum-told : tie.Need-enum-told
 enum-told c = search needs
