@@ -1,4 +1,6 @@
 // The actions of lists judged, each with its conditions and its situations.
+#![tactic(auto)]
+
 ghost use Rattle.std.specs.Prelude.{◌≡◌, List, ◌∷◌, ◌++◌, map, ℕ, ◌+◌, ◌*◌, ◌≤◌, ◌<◌, length, drop, get_or};
 ghost use Rattle.study.specs.Reading.{Record, action};
 ghost use Rattle.tables.specs.Rows.{count_column};

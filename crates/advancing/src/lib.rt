@@ -1,4 +1,6 @@
 // One record judged: its fault, or where the reading stands after it.
+#![tactic(auto)]
+
 ghost use Rattle.std.specs.Prelude.{◌≡◌, ℕ, ◌≤◌, ◌<◌};
 ghost use Rattle.tables.specs.Tables.{seed_of_lem};
 ghost use Rattle.tables.specs.Rows.{count_column};
@@ -11,7 +13,7 @@ use judging::faults;
 // were read, the variables that an action changes or a condition names, as a set of bits, the kind of the last record, the
 // variable of the last action, the least variable that its next condition may name, how many conditions it has, and the
 // situation. The order is one that the compiler takes apart: in most others it keeps the struct in memory, and reading costs more.
-#[derive(Drop)]
+#[derive(Clone, Copy)]
 pub struct Progress {
     pub above: u8,
     pub situation: u8,
@@ -27,7 +29,7 @@ pub struct Progress {
 }
 
 // What one record leads to.
-#[derive(Drop)]
+#[derive(Clone, Copy)]
 pub enum Step {
     On(Progress),
     Refused { number: u8, place: usize },

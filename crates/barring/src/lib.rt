@@ -1,4 +1,6 @@
 // What keeps an action from being done in a state: the first variable that is not at the value asked of it, and that value.
+#![tactic(auto)]
+
 ghost use Rattle.std.specs.Prelude.{◌≡◌, List, ℕ, ◌+◌, ◌*◌, ◌≤◌, ◌<◌, length, get_or};
 ghost use Rattle.study.specs.Study.{Condition, Action};
 ghost use Rattle.tables.specs.Tables.{HoldsConditions};
@@ -9,14 +11,14 @@ ghost use Rattle.barring.specs.Telling.{Tells};
 use tables::Act;
 
 // A value of a variable.
-#[derive(Drop)]
+#[derive(Clone, Copy)]
 pub struct Want {
     pub var: u8,
     pub value: u8,
 }
 
 // Nothing is waited for, or a value is.
-#[derive(Drop)]
+#[derive(Clone, Copy)]
 pub enum Stance {
     Idle,
     Waits(Want),

@@ -1,4 +1,6 @@
 // Sets of bits in words: one word, and 256 bits in four.
+#![tactic(auto)]
+
 ghost use Rattle.std.specs.Prelude.{◌≡◌, not, ◌&&◌, ◌||◌, ℕ, ◌<◌, eqb, length};
 ghost use Rattle.bits.specs.Bits.{bit, marked, within, LowestBit, LowestClear, Added, Removed, LeastMember};
 

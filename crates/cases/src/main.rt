@@ -8,15 +8,19 @@
 // The other words are calls: `asking` has those that write nothing, `lending` those that are lent the front of the buffer, `logs` the
 // one that is lent an occupant's record.
 // Each is printed, then the length of the file that it gets, then what it answers.
+#![tactic(auto)]
+
 mod asking;
 mod lending;
 mod logs;
 mod show;
 mod words;
 
-use bytes::scan::find;
-use libc::STDIN_FILENO;
-use words::{bytes, front, number, word};
+ghost use Rattle.std.specs.Prelude.{◌≡◌, length};
+
+use words::{bytes, find, front, number, word};
+
+const STDIN_FILENO: i32 = 0;
 
 // The words, as `words::word` reads them.
 const CASE: u64 = 0x23;
@@ -28,10 +32,20 @@ const AGAIN: u64 = 0x616761696e;
 // One byte more than the longest file has, or a file and a log of 16,386 events.
 const ROOM: usize = 66560;
 
+// The longest input.
+const INPUT: usize = 524288;
+
 fn main() {
-    let mut text = [0u8; 524288];
+    let mut text = room();
     let n = io::read_full(STDIN_FILENO, &mut text);
     lines(front(&text, n));
+}
+
+// Room for the whole input. A call's result has a length that its contract says, which no proof counts.
+fn room() -> [u8; INPUT]
+    ensures { length result ≡ INPUT }
+{
+    [0u8; INPUT]
 }
 
 fn lines(text: &[u8]) {

@@ -1,7 +1,8 @@
 // Words, numbers, bytes and answers on standard output.
 use crate::words::wide;
 use answer::Answer;
-use libc::STDOUT_FILENO;
+
+const STDOUT_FILENO: i32 = 1;
 
 pub(crate) fn text(words: &[u8]) {
     io::write_all(STDOUT_FILENO, words);

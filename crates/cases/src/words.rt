@@ -115,3 +115,16 @@ pub(crate) fn rest(s: &[u8], n: usize) -> &[u8] {
     }
     &s[n..s.len()]
 }
+
+// The first place from `at` on, and before `end`, at which the byte stands; or `end`.
+pub(crate) fn find(text: &[u8], at: usize, end: usize, byte: u8) -> usize
+    requires { (at ≤ end) × (end ≤ length text.now) }
+    ensures { (at ≤ result) × (result ≤ end) }
+{
+    for i in at..end {
+        if text[i] == byte {
+            return i;
+        }
+    }
+    end
+}

@@ -1,4 +1,6 @@
 // Checks a chart of a study file: loads it and goes one of two ways; above 64 actions it first finds whether there is a plan.
+#![tactic(auto)]
+
 ghost use Rattle.std.specs.Prelude.{◌≡◌, ◌≢◌, ℕ, length};
 ghost use Rattle.study.specs.Study.{Study};
 ghost use Rattle.stages.specs.Whole.{KnownIn};

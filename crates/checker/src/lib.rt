@@ -1,4 +1,6 @@
 // Checks a study file.
+#![tactic(auto)]
+
 ghost use Rattle.checker.specs.Check.{CheckAllows};
 
 use answer::Answer;

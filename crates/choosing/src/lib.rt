@@ -1,4 +1,6 @@
 // Which ready action is taken next.
+#![tactic(auto)]
+
 ghost use Rattle.std.specs.Prelude.{List, ℕ, ◌≤◌};
 ghost use Rattle.tables.specs.Rows.{var_column, place_column, many_column};
 ghost use Rattle.opening.specs.Conditions.{Readable, FirstOpen};
@@ -6,7 +8,7 @@ ghost use Rattle.choosing.specs.Choosing.{Noted, Guarded, Chosen};
 ghost use Rattle.choosing.specs.OpenRight.{OpenRight};
 
 // The ready action of least rank, or that none is ready.
-#[derive(Drop)]
+#[derive(Clone, Copy)]
 pub enum Choice {
     Action(usize),
     Nothing,

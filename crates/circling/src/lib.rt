@@ -1,5 +1,7 @@
 // The ring that explains refusal 12: from an action to the lowest of those left that comes directly before it, until one
 // repeats.
+#![tactic(auto)]
+
 ghost use Rattle.std.specs.Prelude.{◌≡◌, List, ℕ, ◌+◌, ◌≤◌, ◌<◌, length, take, get_or};
 ghost use Rattle.study.specs.Study.{Study};
 ghost use Rattle.walks.specs.Walks.{conditions_of, var_of, post_of, Wants};
@@ -89,7 +91,7 @@ fn lowest_before(
 }
 
 // An action, and its entry on the path.
-#[derive(Drop)]
+#[derive(Clone, Copy)]
 pub struct Spot {
     action: usize,
     entry: usize,

@@ -1,4 +1,6 @@
 // A chart of at most 64 actions, whose sets are words: what is amiss in its list, its pairs as ties, and the lowest order that they lack.
+#![tactic(auto)]
+
 ghost use Rattle.std.specs.Prelude.{◌≡◌, ◌↔◌, false, List, ℕ, ◌<◌, length};
 ghost use Rattle.bits.specs.Bits.{bit};
 ghost use Rattle.hanging.specs.Hanging.{InWord};

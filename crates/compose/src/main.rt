@@ -4,10 +4,14 @@
 // significant first, and the situation, one byte. Then come those bytes; an entry of crews has how many of the tasks are its
 // own, and its seed. What does not come is 0, and nothing behind them is read.
 // The output is the line `written` with the file's length, then the file; or a refusal's line.
+#![tactic(auto)]
+
 ghost use Rattle.std.specs.Prelude.{◌≡◌, length};
 ghost use Rattle.compose_call.specs.Input.{input_length};
 
-use libc::{STDIN_FILENO, STDOUT_FILENO};
+const STDIN_FILENO: i32 = 0;
+
+const STDOUT_FILENO: i32 = 1;
 
 // The longest input: a head of 11 bytes, and five lists of 65,535.
 const INPUT: usize = 327686;

@@ -1,4 +1,6 @@
 // What the program `compose` does with the bytes it was given: it cuts them into the lists of a study, and writes its file.
+#![tactic(auto)]
+
 ghost use Rattle.std.specs.Prelude.{◌≡◌, length};
 ghost use Rattle.lawful.specs.Lengths.{longest_file};
 ghost use Rattle.spelling.specs.Write.{WriteAllows};

@@ -1,4 +1,6 @@
 // The crews of lists judged one after another, and whatever no crew takes.
+#![tactic(auto)]
+
 ghost use Rattle.std.specs.Prelude.{List, [], ◌∷◌, ℕ, ◌+◌, ◌*◌, ◌≤◌, length};
 ghost use Rattle.study.specs.Reading.{end};
 ghost use Rattle.tables.specs.Rows.{count_column};
@@ -22,7 +24,7 @@ fn tasks_in(len: usize) -> usize
 }
 
 // A crew as it is lent: how many tasks it takes, its seed, and whether it is lent whole.
-#[derive(Drop)]
+#[derive(Clone, Copy)]
 pub struct Lent {
     many: usize,
     seed: u64,

@@ -4,10 +4,14 @@
 // significant first; what does not come of these eight is 0. Then come those bytes, and behind them the file: whatever is announced,
 // there is room for one byte more than the longest file has. Of ranks and rides, what is announced and does not come is left out.
 // The output is the line `journeys` with how many there are, then the journeys, three bytes each; or a refusal's line.
+#![tactic(auto)]
+
 ghost use Rattle.std.specs.Prelude.{◌≤◌, ◌≡◌, length};
 ghost use Rattle.dispatch_call.specs.Input.{input_length};
 
-use libc::{STDIN_FILENO, STDOUT_FILENO};
+const STDIN_FILENO: i32 = 0;
+
+const STDOUT_FILENO: i32 = 1;
 
 // A head of 8 bytes, two lists of 65,535, and one byte more than the longest file has.
 const INPUT: usize = 157561;

@@ -1,4 +1,6 @@
 // What the program `dispatch` does with the bytes it was given: it cuts them into ranks, rides and file, and makes the journeys.
+#![tactic(auto)]
+
 ghost use Rattle.std.specs.Prelude.{◌≤◌, ◌≡◌, length};
 ghost use Rattle.journeys.specs.Allowed.{JourneysAllows};
 ghost use Rattle.dispatch_call.specs.Input.{input_length, most_bytes, crew_in, start_in, ranks_in, rides_in, file_in};

@@ -1,4 +1,6 @@
 // Makes the lift journeys of a crew's plan.
+#![tactic(auto)]
+
 ghost use Rattle.std.specs.Prelude.{◌≡◌, length, drop};
 ghost use Rattle.study.specs.Study.{Study};
 ghost use Rattle.study.specs.Reading.{says, reading_for};

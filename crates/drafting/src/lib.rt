@@ -1,5 +1,7 @@
 // Judges the lists that a study file is to be written from: what the reader says of the bytes that they stand for, without
 // those bytes.
+#![tactic(auto)]
+
 ghost use Rattle.std.specs.Prelude.{◌≡◌, List, [], ◌∷◌, ◌++◌, map, ℕ, ◌≤◌};
 ghost use Rattle.study.specs.Reading.{Record, variable, end};
 ghost use Rattle.tables.specs.Rows.{count_column};
@@ -12,7 +14,7 @@ ghost use Rattle.drafting.specs.Judges.{JudgedAs, RepeatedIn, refusal_of};
 use advancing::{Progress, Step};
 
 // The lists load, as a file of so many bytes; or the reader's refusal.
-#[derive(Drop)]
+#[derive(Clone, Copy)]
 pub enum Judged {
     Good(usize),
     Refused { number: u8, place: usize },

@@ -1,4 +1,6 @@
 // The seeded draw of a rank list.
+#![tactic(auto)]
+
 ghost use Rattle.std.specs.Prelude.{◌≡◌, ◌++◌, ◌-◌, ◌<◌, ◌≤◌, length, drop};
 ghost use Rattle.answer.specs.Answers.{refusal};
 ghost use Rattle.ranks.specs.Ranks.{rising, exchanged};

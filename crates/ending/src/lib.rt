@@ -1,4 +1,6 @@
 // Where the reading ends: no record that may be taken, or the end record.
+#![tactic(auto)]
+
 ghost use Rattle.std.specs.Prelude.{◌≡◌, ℕ, ◌+◌, ◌≤◌, List, length, ltb};
 ghost use Rattle.study.specs.Reading.{Draft, settled, ended, first_repeat};
 ghost use Rattle.tables.specs.Tables.{tables};

@@ -1,4 +1,6 @@
 // A record without fault entered in the tables.
+#![tactic(auto)]
+
 ghost use Rattle.std.specs.Prelude.{◌≡◌, List, ℕ, ◌≤◌, ◌<◌, ◌+◌, ◌-◌, ◌*◌};
 ghost use Rattle.tables.specs.Rows.{count_column, start_column, goal_column, seen};
 ghost use Rattle.judging.specs.Faults.{variable_fault_lem, action_fault_lem, condition_fault_lem, seed_fault_lem, times_fault_lem};

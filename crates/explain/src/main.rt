@@ -1,6 +1,8 @@
 // Plans the study file on standard input for each of its crews with the crew's own seed, and prints the plans or refusals with
 // their reasons, one after the other; where there is more than one crew, a line before each says which. A file that does not
 // load is refused once.
+#![tactic(auto)]
+
 ghost use Rattle.std.specs.Prelude.{◌≡◌, ◌≢◌, List, ℕ, suc, ◌≤◌, ◌<◌, length, take, replicate};
 ghost use Rattle.io.specs.Counts.{IsPrefixLen};
 ghost use Rattle.study.specs.Study.{Study};
@@ -13,8 +15,11 @@ ghost use Rattle.answer.specs.Answers.{three};
 ghost use Rattle.turns.specs.Turns.{turns_in};
 
 use answer::Answer;
-use libc::{STDIN_FILENO, STDOUT_FILENO};
 use tables::Loaded;
+
+const STDIN_FILENO: i32 = 0;
+
+const STDOUT_FILENO: i32 = 1;
 
 // One byte more than the longest file has, as `read` asks: of a longer one these bytes are planned, and refused.
 const ROOM: usize = 26483;

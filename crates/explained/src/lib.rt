@@ -1,1 +1,2 @@
 // What an explanation says of a study: mathematics alone.
+#![tactic(auto)]

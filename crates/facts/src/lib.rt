@@ -1,4 +1,6 @@
 // The facts of an explanation, a row for each: its kind, and the numbers that it names.
+#![tactic(auto)]
+
 ghost use Rattle.std.specs.Prelude.{◌≡◌, [], ◌∷◌, ◌++◌, ◌+◌, ◌<◌, length, take};
 
 pub const GOAL: u8 = 0;

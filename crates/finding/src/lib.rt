@@ -1,4 +1,6 @@
 // The facts that explain refusals 10 and 11: a trace back from the goal, and a walk that passes a wanted value by.
+#![tactic(auto)]
+
 ghost use Rattle.std.specs.Prelude.{◌≡◌, List, ℕ, ◌≤◌, ◌<◌, length, take};
 ghost use Rattle.study.specs.Study.{Study};
 ghost use Rattle.walks.specs.Walks.{goal_of, start_of, conditions_of, Wants};

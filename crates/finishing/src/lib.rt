@@ -1,4 +1,6 @@
 // Runs a list of actions on the study that the tables hold.
+#![tactic(auto)]
+
 mod ends;
 
 ghost use Rattle.std.specs.Prelude.{◌≡◌, List, ℕ};
@@ -15,7 +17,7 @@ use stepping::Turn;
 use tables::Loaded;
 
 // The first variable that is not at its goal, if there is one.
-#[derive(Drop)]
+#[derive(Clone, Copy)]
 pub enum Fails {
     Nowhere,
     At(u64),

@@ -1,4 +1,6 @@
 // The events of an access log, one after another, on the rows of the actions.
+#![tactic(auto)]
+
 mod looking;
 
 ghost use Rattle.std.specs.Prelude.{◌≡◌, ℕ, ◌<◌, length};
@@ -12,7 +14,7 @@ use looking::Seen;
 use occupant::Occupant;
 
 // Where a log leads to: the occupant, how many events were done and how many held; or the refusal of an event.
-#[derive(Drop)]
+#[derive(Clone, Copy)]
 pub enum Outcome {
     Ends {
         occupant: Occupant,

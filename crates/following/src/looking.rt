@@ -6,7 +6,7 @@ ghost use Rattle.barring.specs.Telling.{Ready};
 ghost use Rattle.following.specs.Following.{Sound, Looks};
 
 // An event with its action, its tick and its step; or the number that refuses it.
-#[derive(Drop)]
+#[derive(Clone, Copy)]
 pub(crate) enum Seen {
     Event { action: u8, tick: u16, step: u16 },
     Refused(u64),

@@ -1,4 +1,6 @@
 // What belongs to an action, read on: its conditions one after another, and its situations.
+#![tactic(auto)]
+
 ghost use Rattle.std.specs.Prelude.{◌≡◌, true, List, ℕ, ◌-◌, ◌≤◌, ltb};
 ghost use Rattle.study.specs.Reading.{may_follow_lem};
 ghost use Rattle.tables.specs.Tables.{ActionTables, tables};

@@ -1,4 +1,6 @@
 // What each stage found, as an answer; and what was taken, handed over as the plan.
+#![tactic(auto)]
+
 ghost use Rattle.std.specs.Prelude.{◌≡◌, List, ◌++◌, ℕ, ◌≤◌, length, take, drop};
 ghost use Rattle.answer.specs.Answers.{three};
 ghost use Rattle.study.specs.Study.{Study};

@@ -1,4 +1,6 @@
 // Takes numbers below 64 one after another, always the least that is ready, each after those that come directly before it.
+#![tactic(auto)]
+
 ghost use Rattle.std.specs.Prelude.{◌≡◌, ◌≤◌, ◌<◌, length};
 ghost use Rattle.orders.specs.Orders.{Counted};
 ghost use Rattle.hanging.specs.Hanging.{InWord, Only, Hangs, LeastFree, TakenByName};

@@ -1,4 +1,6 @@
 // The figures before a report's rows, and the report on seeds that are all refused.
+#![tactic(auto)]
+
 ghost use Rattle.std.specs.Prelude.{◌≡◌, ◌∷◌, ℕ, ◌≤◌, eqb, length, drop};
 ghost use Rattle.answer.specs.Answers.{refusal};
 ghost use Rattle.answer.specs.declared.Answer.{Answer as Told};

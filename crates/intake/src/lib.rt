@@ -1,4 +1,6 @@
 // The parts of a program's input: numbers of two, four and eight bytes, where the file ends, where a part ends.
+#![tactic(auto)]
+
 ghost use Rattle.std.specs.Prelude.{◌+◌, ◌-◌, ◌≤◌, ◌<◌, ◌≡◌, length};
 ghost use Rattle.intake.specs.Numbers.{pair_at, four_at_lem, eight_at_lem};
 

@@ -1,4 +1,6 @@
 // What the first of many seeds tells of all, and a plan kept as one of many.
+#![tactic(auto)]
+
 ghost use Rattle.std.specs.Prelude.{◌≡◌, List, [], ◌∷◌, ◌++◌, ℕ, ◌+◌, ◌*◌, ◌≤◌, ◌<◌, length, take, drop};
 ghost use Rattle.study.specs.Study.{Study};
 ghost use Rattle.matching.specs.Kept.{RoomFor, Kept};
@@ -10,7 +12,7 @@ use answer::Answer;
 pub const HEAD: usize = 5;
 
 // Which seeds, and how many variables, actions and steps of a plan there are.
-#[derive(Drop)]
+#[derive(Clone, Copy)]
 pub struct Extent {
     pub first: u64,
     pub seeds: usize,
@@ -20,7 +22,7 @@ pub struct Extent {
 }
 
 // What the first seed tells of all: the answer; or that each gives a plan, and how long the report is.
-#[derive(Drop)]
+#[derive(Clone, Copy)]
 pub enum FirstSeed {
     Settles(Answer),
     Plans(usize),

@@ -1,4 +1,6 @@
 // The lowest direct order between walk actions that is not in rows of bits.
+#![tactic(auto)]
+
 ghost use Rattle.std.specs.Prelude.{◌≡◌, ℕ, ◌≤◌, ◌<◌, length};
 ghost use Rattle.study.specs.Study.{Study};
 ghost use Rattle.walks.specs.Walks.{Met};
@@ -11,7 +13,7 @@ ghost use Rattle.lacking.specs.Lacking.{Lacks, no_two, as_two_lem, Weighs, Just,
 use tables::Act;
 
 // No direct order lacks; or the lowest that does.
-#[derive(Drop)]
+#[derive(Clone, Copy)]
 pub enum Lack {
     Nothing,
     Two { first: u8, second: u8 },
@@ -45,6 +47,7 @@ fn weigh_setter(best: u32, q: u8, start: u8, setter: u8, i: u8, rows: &[[u64; 4]
 }
 
 // Weighs one that needs a value against the action that leaves it, if the step names one.
+#[tactic(auto, using(crate::proofs::Weighing::leaver_weighed, crate::proofs::Weighing::end_passed))]
 fn weigh_leaver(best: u32, i: u8, step: u16, rows: &[[u64; 4]; 256]) -> u32
     requires { step < 258 }
     ensures { Weighs rows.now (LeftAfter i step) best result }

@@ -1,11 +1,13 @@
 // Numbers below 256 that are linked, a row of 256 bits for each: all that a chain of links leads to, in place.
+#![tactic(auto)]
+
 ghost use Rattle.std.specs.Prelude.{◌≡◌, true, false, not, ◌&&◌, ℕ, ◌<◌, length};
 ghost use Rattle.bits.specs.Bits.{bit, within};
 ghost use Rattle.linking.specs.Linking.{Rows, Linked, Shaped, Closes};
 ghost use Rattle.linking.specs.Passing.{LeastOutside, Joined, Joins, OfWord, Gathers, Partly, Finishes, Ring};
 
 // Each row has all that a chain of links leads to; or some chain leads back to where it began.
-#[derive(Drop)]
+#[derive(Clone, Copy)]
 pub enum Closed {
     Chains,
     Circle,

@@ -1,4 +1,6 @@
 // What is wrong with a chart's list and pairs, found in loaded tables; the pairs as rows of bits.
+#![tactic(auto)]
+
 ghost use Rattle.std.specs.Prelude.{◌≡◌, List, ℕ, ◌≤◌, length};
 ghost use Rattle.study.specs.Study.{Study};
 ghost use Rattle.tables.specs.Rows.{out_column};

@@ -1,4 +1,6 @@
 // Reads a study file once and fills the tables that planning and running need.
+#![tactic(auto)]
+
 ghost use Rattle.std.specs.Prelude.{◌≡◌, true, ◌+◌, ◌≤◌, ltb, length};
 ghost use Rattle.study.specs.Reading.{may_follow_lem};
 ghost use Rattle.records.specs.Records.{record_at_lem};

@@ -1,4 +1,6 @@
 // One crew of lists judged: its opening, its tasks and its seed.
+#![tactic(auto)]
+
 ghost use Rattle.std.specs.Prelude.{◌≡◌, List, ◌∷◌, ◌++◌, map, ℕ, ◌+◌, ◌*◌, ◌≤◌, ◌<◌, length, drop};
 ghost use Rattle.study.specs.Reading.{Record, task, seed};
 ghost use Rattle.tables.specs.Rows.{count_column};

@@ -1,4 +1,6 @@
 // Ranks marked as bits of words: that of the action that sets a value, or one before that of the action that leaves a value.
+#![tactic(auto)]
+
 ghost use Rattle.std.specs.Prelude.{◌≡◌, ◌≢◌, ◌+◌, ◌<◌, length, get_or};
 ghost use Rattle.marking.specs.Marking.{Ranked, SetterMarked, LeaverMarked};
 

@@ -1,4 +1,6 @@
 // The values of a variable as bits of a word: at most 16 of them.
+#![tactic(auto)]
+
 ghost use Rattle.std.specs.Prelude.{◌≡◌, ◌||◌, ℕ, ◌<◌, eqb};
 ghost use Rattle.bits.specs.Bits.{bit};
 

@@ -1,4 +1,6 @@
-// The library that a host links: the calls of documents 01 and 02, exported to C with their contracts.
+// The library that a host links: the calls of documents 01 and 02, with their contracts; `marrowkite_c` exports them to C.
+#![tactic(auto)]
+
 ghost use Rattle.std.specs.Prelude.{◌≡◌};
 ghost use Rattle.checker.specs.Check.{CheckAllows};
 ghost use Rattle.draw.specs.Draw.{DrawAllows};
@@ -18,7 +20,7 @@ use records::Found;
 // One record in numbers: 0 with its kind, where its body starts, the body's length and the place after it; else 2 or 1,
 // with the refusal's place as start and next.
 #[repr(C)]
-#[derive(Drop)]
+#[derive(Clone, Copy)]
 pub struct Record {
     pub number: u64,
     pub kind: u64,
@@ -39,8 +41,7 @@ fn refused(number: u64, place: usize) -> Record
     }
 }
 
-#[unsafe(no_mangle)]
-pub extern "C" fn marrowkite_record_at(file: &[u8], at: u64) -> Record
+pub fn marrowkite_record_at(file: &[u8], at: u64) -> Record
     ensures { RecordAllows file.now at result }
 {
     let found = records::record_at(file, at as usize);
@@ -58,43 +59,37 @@ pub extern "C" fn marrowkite_record_at(file: &[u8], at: u64) -> Record
     }
 }
 
-#[unsafe(no_mangle)]
-pub extern "C" fn marrowkite_check(file: &[u8]) -> Answer
+pub fn marrowkite_check(file: &[u8]) -> Answer
     ensures { CheckAllows file.now result }
 {
     checker::check(file)
 }
 
-#[unsafe(no_mangle)]
-pub extern "C" fn marrowkite_plan(file: &[u8], crew: u64, ranks: &[u8], plan: &mut [u8]) -> Answer
+pub fn marrowkite_plan(file: &[u8], crew: u64, ranks: &[u8], plan: &mut [u8]) -> Answer
     ensures { PlanAllows file.now crew ranks.now plan.old result plan.new }
 {
     planner::plan(file, crew, ranks, plan)
 }
 
-#[unsafe(no_mangle)]
-pub extern "C" fn marrowkite_plan_seeded(file: &[u8], crew: u64, plan: &mut [u8]) -> Answer
+pub fn marrowkite_plan_seeded(file: &[u8], crew: u64, plan: &mut [u8]) -> Answer
     ensures { SeededAllows file.now crew plan.old result plan.new }
 {
     planner::plan_seeded(file, crew, plan)
 }
 
-#[unsafe(no_mangle)]
-pub extern "C" fn marrowkite_run(file: &[u8], crew: u64, plan: &[u8], state: &mut [u8]) -> Answer
+pub fn marrowkite_run(file: &[u8], crew: u64, plan: &[u8], state: &mut [u8]) -> Answer
     ensures { RunAllows file.now crew plan.now state.old result state.new }
 {
     running::run(file, crew, plan, state)
 }
 
-#[unsafe(no_mangle)]
-pub extern "C" fn marrowkite_draw(seed: u64, count: u64, ranks: &mut [u8]) -> Answer
+pub fn marrowkite_draw(seed: u64, count: u64, ranks: &mut [u8]) -> Answer
     ensures { DrawAllows seed count ranks.old result ranks.new }
 {
     draw::draw(seed, count, ranks)
 }
 
-#[unsafe(no_mangle)]
-pub extern "C" fn marrowkite_write(
+pub fn marrowkite_write(
     situation: u8,
     variables: &[u8],
     actions: &[u8],
@@ -111,40 +106,25 @@ pub extern "C" fn marrowkite_write(
     )
 }
 
-#[unsafe(no_mangle)]
-pub extern "C" fn marrowkite_report(
-    file: &[u8],
-    crew: u64,
-    first: u64,
-    n: u64,
-    report: &mut [u8],
-) -> Answer
+pub fn marrowkite_report(file: &[u8], crew: u64, first: u64, n: u64, report: &mut [u8]) -> Answer
     ensures { ReportAllows file.now crew first n report.old result report.new }
 {
     reporter::report(file, crew, first, n, report)
 }
 
-#[unsafe(no_mangle)]
-pub extern "C" fn marrowkite_chart(file: &[u8], crew: u64, actions: &[u8], pairs: &[u8]) -> Answer
+pub fn marrowkite_chart(file: &[u8], crew: u64, actions: &[u8], pairs: &[u8]) -> Answer
     ensures { ChartAllows file.now crew actions.now pairs.now result }
 {
     charter::chart(file, crew, actions, pairs)
 }
 
-#[unsafe(no_mangle)]
-pub extern "C" fn marrowkite_replay(
-    file: &[u8],
-    crew: u64,
-    log: &[u8],
-    occupant: &mut [u8; 40],
-) -> Answer
+pub fn marrowkite_replay(file: &[u8], crew: u64, log: &[u8], occupant: &mut [u8; 40]) -> Answer
     ensures { ReplayAllows file.now crew log.now occupant.old result occupant.new }
 {
     replaying::replay(file, crew, log, occupant)
 }
 
-#[unsafe(no_mangle)]
-pub extern "C" fn marrowkite_journeys(
+pub fn marrowkite_journeys(
     file: &[u8],
     crew: u64,
     ranks: &[u8],

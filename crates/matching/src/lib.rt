@@ -1,5 +1,7 @@
 // Plans kept beside one another, and how many of them are different. They stand by position in lent bytes: what plan k has at
 // position p is at base + stride * p + k.
+#![tactic(auto)]
+
 ghost use Rattle.std.specs.Prelude.{◌≡◌, List, [], ◌∷◌, ◌++◌, ℕ, ◌+◌, ◌*◌, ◌≤◌, ◌<◌, length, take, drop};
 ghost use Rattle.varied.specs.Figures.{same_list, is_among, different as Figures·different};
 ghost use Rattle.matching.specs.Kept.{plan_at, Kept, RoomFor};

@@ -1,4 +1,6 @@
 // Loads a study file for one of its crews: the tables, with that crew's tasks, and its seed.
+#![tactic(auto)]
+
 ghost use Rattle.std.specs.Prelude.{◌≡◌, ◌<◌};
 ghost use Rattle.tables.specs.Tables.{Sized, Loads};
 ghost use Rattle.tables.specs.Rows.{seen_all};

@@ -1,10 +1,12 @@
 // The occupant that a replay moves on, event by event. The values reached stand in a table beside it, which no move copies.
+#![tactic(auto)]
+
 ghost use Rattle.std.specs.Prelude.{◌≡◌, ◌+◌, ◌<◌};
 
 use barring::Stance;
 
 // Idle or waiting, and the sum of all steps.
-#[derive(Drop)]
+#[derive(Clone, Copy)]
 pub struct Occupant {
     pub stance: Stance,
     pub sum: u64,

@@ -1,4 +1,6 @@
 // Which variables' next actions may be looked at: their ranks, as bits of four words.
+#![tactic(auto)]
+
 ghost use Rattle.std.specs.Prelude.{◌≡◌, true, ℕ, ◌+◌, ◌*◌, ◌<◌, length, get_or};
 ghost use Rattle.bits.specs.Bits.{bit};
 ghost use Rattle.opening.specs.Conditions.{entry_at, Lowerable, lowered_all};

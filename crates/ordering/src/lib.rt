@@ -1,4 +1,6 @@
 // What comes directly before each walk action of at most 64, by rank, as bits of words.
+#![tactic(auto)]
+
 ghost use Rattle.std.specs.Prelude.{◌≡◌, ℕ, ◌≤◌, ◌<◌, length, get_or};
 ghost use Rattle.study.specs.Study.{Study};
 ghost use Rattle.tables.specs.Rows.{start_column};
@@ -10,14 +12,14 @@ use tables::Act;
 use wanting::Wanted;
 
 // The ranks of the walk actions; or the lowest walk action that has a condition off its walk, with the condition's variable.
-#[derive(Drop)]
+#[derive(Clone, Copy)]
 pub enum Found {
     Members(u64),
     Off { action: usize, var: u8 },
 }
 
 // A word with the ranks of the actions that set what an action wants; or the variable of its first condition off its walk.
-#[derive(Drop)]
+#[derive(Clone, Copy)]
 pub enum SetBy {
     Ranks(u64),
     Off(u8),

@@ -1,4 +1,6 @@
 // One record read, judged and taken.
+#![tactic(auto)]
+
 ghost use Rattle.std.specs.Prelude.{◌≡◌, true, ℕ, ltb};
 ghost use Rattle.study.specs.Reading.{Draft, verdict_at, may_follow_lem};
 ghost use Rattle.records.specs.Records.{record_at_lem};

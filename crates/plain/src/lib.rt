@@ -1,1 +1,2 @@
 // Plain mathematics that every crate's definitions share: no code.
+#![tactic(auto)]

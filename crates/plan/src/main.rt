@@ -1,5 +1,7 @@
 // Plans the study file on standard input for each of its crews with the crew's own seed, and prints the plans or refusals, one
 // after the other with nothing between. A file that does not load is refused once.
+#![tactic(auto)]
+
 ghost use Rattle.std.specs.Prelude.{◌≡◌, ℕ, suc, ◌≤◌, ◌<◌, length, get_or, take};
 ghost use Rattle.io.specs.Counts.{IsPrefixLen};
 ghost use Rattle.study.specs.Study.{Study};
@@ -9,7 +11,9 @@ ghost use Rattle.telling.specs.Text.{shown_of, plan_text};
 ghost use Rattle.turns.specs.Turns.{turns_in};
 ghost use Rattle.plan.specs.Printed.{Printed};
 
-use libc::{STDIN_FILENO, STDOUT_FILENO};
+const STDIN_FILENO: i32 = 0;
+
+const STDOUT_FILENO: i32 = 1;
 
 // One byte more than the longest file has, as `read` asks: of a longer one these bytes are planned, and refused.
 const ROOM: usize = 26483;

@@ -1,4 +1,6 @@
 // Plans a study file for one of its crews: with a rank list, or with the list that the crew's seed draws.
+#![tactic(auto)]
+
 ghost use Rattle.planning.specs.Planning.{PlanAllows};
 ghost use Rattle.planning.specs.Seeded.{SeededAllows};
 

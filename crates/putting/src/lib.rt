@@ -1,4 +1,6 @@
 // So many bytes put into a file from a place on; each function returns the place after them.
+#![tactic(auto)]
+
 ghost use Rattle.std.specs.Prelude.{◌≡◌, [], ◌∷◌, ◌++◌, eqb};
 ghost use Rattle.plain.specs.Choose.{pick};
 ghost use Rattle.study.specs.Reading.{seed};

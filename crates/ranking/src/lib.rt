@@ -1,11 +1,13 @@
 // Tests a rank list, and turns one round.
+#![tactic(auto)]
+
 ghost use Rattle.std.specs.Prelude.{◌≡◌, ◌≤◌, length};
 ghost use Rattle.ranks.specs.Ranks.{Apart, Turned};
 ghost use Rattle.ranking.specs.Ranking.{tested};
 
 // What the test of a rank list finds: the list is a rank list, its length is wrong, or the first entry that is too large
 // or repeats an earlier one.
-#[derive(Drop)]
+#[derive(Clone, Copy)]
 pub enum Tested {
     Fine,
     Length,

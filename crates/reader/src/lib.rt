@@ -1,6 +1,6 @@
-// A reader of a study file. The borrow checker covers no function over a struct that holds a reference: each of `new`,
-// `next` and `after` is thin and proved by hand, and so are the two that stand above them with plain parameters,
-// `record_from` and `record_after`. Who calls those two needs no proof by hand.
+// A reader of a study file.
+#![tactic(auto)]
+
 ghost use Rattle.std.specs.Prelude.{◌≡◌};
 ghost use Rattle.records.specs.Records.{record_at_lem, next_of};
 ghost use Rattle.reader.specs.Reading.{reader_at, record_after_lem};
@@ -8,7 +8,7 @@ ghost use Rattle.reader.specs.Reading.{reader_at, record_after_lem};
 use records::Found;
 
 // The file, and the place from which it is read on.
-#[derive(Drop)]
+#[derive(Clone, Copy)]
 pub struct Reader<'a> {
     pub file: &'a [u8],
     pub at: usize,

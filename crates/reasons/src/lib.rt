@@ -1,4 +1,6 @@
 // The reasons why a step of a plan comes after earlier ones: every direct order that ends in its action.
+#![tactic(auto)]
+
 ghost use Rattle.std.specs.Prelude.{◌≡◌, true, false, List, ◌++◌, ℕ, ◌+◌, ◌≤◌, ◌<◌, length, take, get_or};
 ghost use Rattle.bits.specs.Bits.{within};
 ghost use Rattle.study.specs.Study.{Study};

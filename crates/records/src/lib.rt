@@ -1,10 +1,12 @@
 // Reads one record of a study file: any bytes, any place.
+#![tactic(auto)]
+
 ghost use Rattle.std.specs.Prelude.{◌≡◌, true, ◌+◌, ◌≤◌, ◌<◌, length};
 ghost use Rattle.records.specs.declared.Found.TheVariants.{There};
 ghost use Rattle.records.specs.Records.{body_length_lem, record_at_lem, body_at, bodied};
 
 // What stands at a place of a file.
-#[derive(Drop)]
+#[derive(Clone, Copy)]
 pub enum Found {
     // A whole record: its body starts at start, and next is the place after it.
     There { kind: u8, start: usize, next: usize },

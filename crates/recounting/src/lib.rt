@@ -1,4 +1,6 @@
 // A plan told step by step, each with the reasons why it comes after earlier ones.
+#![tactic(auto)]
+
 ghost use Rattle.std.specs.Prelude.{◌≡◌, ◌≤◌, ◌<◌, length, get_or, take};
 ghost use Rattle.study.specs.Study.{Study};
 ghost use Rattle.study.specs.Reading.{reading_for, says};
@@ -6,8 +8,9 @@ ghost use Rattle.plans.specs.Plans.{StraightPlan};
 ghost use Rattle.explained.specs.Explained.{step_text};
 ghost use Rattle.recounting.specs.Ready.{Ready};
 
-use libc::STDOUT_FILENO;
 use tables::Loaded;
+
+const STDOUT_FILENO: i32 = 1;
 
 // A plan for a crew with the reasons of its steps, a piece for each step.
 pub fn print_plan(file: &[u8], crew: u64, plan: &[u8])

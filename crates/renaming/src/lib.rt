@@ -1,4 +1,6 @@
 // What comes directly before each walk action of at most 64, found once by action, and put under the ranks of a list.
+#![tactic(auto)]
+
 ghost use Rattle.std.specs.Prelude.{◌≡◌, ℕ, ◌≤◌, ◌<◌, length, get_or};
 ghost use Rattle.ranks.specs.Ranks.{Apart};
 ghost use Rattle.study.specs.Study.{Study};

@@ -1,4 +1,6 @@
 // The first action of lent entries that repeats an earlier one: what the end record decides.
+#![tactic(auto)]
+
 ghost use Rattle.std.specs.Prelude.{◌≡◌, ◌||◌, List, ℕ, ◌*◌, ◌≤◌, ◌<◌, eqb, length};
 ghost use Rattle.bits.specs.Bits.{bit, within};
 ghost use Rattle.study.specs.Study.{Condition};

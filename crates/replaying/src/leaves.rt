@@ -7,7 +7,7 @@ use barring::Stance;
 use occupant::Occupant;
 
 // A stance in numbers: whether it waits, and for which value of which variable.
-#[derive(Drop)]
+#[derive(Clone, Copy)]
 pub(crate) struct Told {
     waits: u8,
     var: u8,

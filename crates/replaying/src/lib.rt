@@ -1,4 +1,6 @@
 // Replays an access log on a study file, for one of its crews.
+#![tactic(auto)]
+
 mod leaves;
 
 ghost use Rattle.std.specs.Prelude.{◌≡◌, List, ℕ};

@@ -1,4 +1,6 @@
 // Reports how varied the plans of a crew are that so many seeds in a row give.
+#![tactic(auto)]
+
 ghost use Rattle.std.specs.Prelude.{◌≡◌};
 ghost use Rattle.answer.specs.Answers.{refusal};
 ghost use Rattle.varied.specs.Report.{ReportAllows};

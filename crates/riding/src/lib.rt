@@ -1,4 +1,6 @@
 // The journeys of a plan: rides entered in tables by action, journeys counted and written. Nothing of files.
+#![tactic(auto)]
+
 ghost use Rattle.std.specs.Prelude.{◌≡◌, [], ◌∷◌, ℕ, ◌+◌, ◌≤◌, ◌<◌, length, take, drop};
 ghost use Rattle.std.proofs.Math.Option.{some};
 ghost use Rattle.answer.specs.Answers.{three};

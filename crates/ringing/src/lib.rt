@@ -1,4 +1,6 @@
 // The orders of a circle of actions as facts, each by the first rule that applies.
+#![tactic(auto)]
+
 ghost use Rattle.std.specs.Prelude.{◌≡◌, [], ◌∷◌, ◌++◌, ℕ, ◌+◌, ◌≤◌, ◌<◌, length, take};
 ghost use Rattle.study.specs.Study.{Study};
 ghost use Rattle.walks.specs.Walks.{conditions_of};
@@ -16,7 +18,7 @@ const SETS: u8 = 8;
 const LEAVES: u8 = 9;
 
 // Where on the path its circle begins, and how long the path is.
-#[derive(Drop)]
+#[derive(Clone, Copy)]
 pub struct Circle {
     pub from: usize,
     pub to: usize,

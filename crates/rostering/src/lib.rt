@@ -1,4 +1,6 @@
 // The crews of a file, good records taken one after another: a crew's tasks, its seed, and what opens the next crew.
+#![tactic(auto)]
+
 ghost use Rattle.std.specs.Prelude.{List, ℕ, ◌≤◌};
 ghost use Rattle.tables.specs.Tables.{ActionTables, tables};
 ghost use Rattle.tables.specs.Rows.{count_column};

@@ -1,4 +1,6 @@
 // Runs a given list of actions on a study file, for one of its crews.
+#![tactic(auto)]
+
 ghost use Rattle.runs.specs.Run.{RunAllows};
 
 use answer::Answer;

@@ -1,4 +1,6 @@
 // The plans of one seed after another, of what was loaded: taken, kept and counted.
+#![tactic(auto)]
+
 ghost use Rattle.std.specs.Prelude.{◌≡◌, ◌+◌, ◌*◌, ◌≤◌, ◌<◌, length, drop};
 ghost use Rattle.study.specs.Study.{Study};
 ghost use Rattle.draw.specs.Draw.{drawn};

@@ -1,4 +1,6 @@
 // The records of actions written, each followed by its conditions and its situations.
+#![tactic(auto)]
+
 ghost use Rattle.std.specs.Prelude.{◌≡◌, map, ◌*◌, ◌%◌, length};
 ghost use Rattle.spelling.specs.Spelling.{spelled};
 ghost use Rattle.spelling.specs.Lists.{condition_record, action_records};

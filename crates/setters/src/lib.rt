@@ -1,4 +1,6 @@
 // The table of setters, filled from the rows of the actions once all are read.
+#![tactic(auto)]
+
 ghost use Rattle.std.specs.Prelude.{◌≡◌, List, ℕ, ◌≤◌, ◌<◌, length};
 ghost use Rattle.study.specs.Study.{Action};
 ghost use Rattle.tables.specs.Tables.{HoldsActions};

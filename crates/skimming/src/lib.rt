@@ -1,4 +1,6 @@
 // The sections of a file up to its last action, good records taken one after another: the situation, variables, actions.
+#![tactic(auto)]
+
 ghost use Rattle.std.specs.Prelude.{List, ℕ, ◌≤◌, length};
 ghost use Rattle.tables.specs.Tables.{ActionTables, Tables, tables};
 ghost use Rattle.tables.specs.Rows.{count_column, seen_all};

@@ -1,4 +1,6 @@
 // The stages of planning what was loaded: walks, conditions on them, actions taken by rank, the plan handed over.
+#![tactic(auto)]
+
 ghost use Rattle.std.specs.Prelude.{◌≡◌, ℕ, ◌≤◌, length};
 ghost use Rattle.ranks.specs.Ranks.{RankList};
 ghost use Rattle.study.specs.Study.{Study};

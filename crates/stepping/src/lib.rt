@@ -1,4 +1,6 @@
 // The steps of a run, on the rows of the actions.
+#![tactic(auto)]
+
 mod steps;
 
 ghost use Rattle.std.specs.Prelude.{◌≡◌, [], ◌∷◌, length, take};
@@ -9,7 +11,7 @@ ghost use Rattle.stepping.specs.Stepping.{Marked, Small, Went};
 use answer::Answer;
 
 // What a step, or a list of steps, leads to.
-#[derive(Drop)]
+#[derive(Clone, Copy)]
 pub enum Turn {
     On,
     Stops(Answer),

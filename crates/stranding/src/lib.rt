@@ -1,4 +1,6 @@
 // The walk actions that cannot be taken: those on a ring, or after one.
+#![tactic(auto)]
+
 ghost use Rattle.std.specs.Prelude.{◌≡◌, false, List, ℕ, ◌+◌, ◌*◌, ◌≤◌, ◌<◌, length, get_or, take, drop};
 ghost use Rattle.bits.specs.Bits.{within};
 ghost use Rattle.study.specs.Study.{Study};

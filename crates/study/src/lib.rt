@@ -1,1 +1,2 @@
 // What a study file says: definitions and their laws, no code.
+#![tactic(auto)]

@@ -3,10 +3,14 @@
 // The input begins with the crew, the first seed and how many seeds, eight bytes each, most significant first; what does not
 // come of them is 0. Behind them comes the file, of which one byte more than the longest has is read.
 // The output is the line `reported` with the report's length, then the report; or a refusal's line.
+#![tactic(auto)]
+
 ghost use Rattle.std.specs.Prelude.{◌≤◌, ◌≡◌, length};
 ghost use Rattle.survey_call.specs.Input.{input_length};
 
-use libc::{STDIN_FILENO, STDOUT_FILENO};
+const STDIN_FILENO: i32 = 0;
+
+const STDOUT_FILENO: i32 = 1;
 
 // A head of 24 bytes, and one byte more than the longest file has.
 const INPUT: usize = 26507;

@@ -1,4 +1,6 @@
 // What the program `survey` does with the bytes it was given: it takes the crew, the seeds and the file from them, and reports.
+#![tactic(auto)]
+
 ghost use Rattle.std.specs.Prelude.{◌≤◌, ◌≡◌, length};
 ghost use Rattle.varied.specs.Report.{ReportAllows};
 ghost use Rattle.survey_call.specs.Input.{input_length, longest_report, crew_in, first_in, count_in, file_in};

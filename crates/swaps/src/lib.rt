@@ -1,1 +1,2 @@
 // Orders joined by exchanges of neighbours: plain mathematics, no code.
+#![tactic(auto)]

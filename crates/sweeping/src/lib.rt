@@ -1,4 +1,6 @@
 // The walk actions taken variable by variable, each as long as it may be: how many of them can be taken at all.
+#![tactic(auto)]
+
 ghost use Rattle.std.specs.Prelude.{◌≡◌, true, false, ℕ, ◌<◌, length};
 ghost use Rattle.study.specs.Study.{Study};
 ghost use Rattle.opening.specs.Conditions.{Readable, HoldUpTo, Lowerable, lowered_all};

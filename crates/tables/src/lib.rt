@@ -1,4 +1,6 @@
 // The tables that one pass over a file fills, in rows, and what a row holds.
+#![tactic(auto)]
+
 ghost use Rattle.std.specs.Prelude.{◌≡◌, ◌+◌, ◌*◌, ◌≤◌, ◌<◌, eqb, length, get_or};
 ghost use Rattle.tables.specs.Rows.{start_column, out_column, sets_in_row, opened_action, opened_variable_lem, OpensAction, OpensVariable, Begins};
 ghost use Rattle.tables.specs.Numbers.{not_loaded};
@@ -6,7 +8,7 @@ ghost use Rattle.tables.specs.Numbers.{not_loaded};
 use answer::Answer;
 
 // What a file says to a crew: how many variables and actions, and the seed; the rest is in the tables. Or the refusal.
-#[derive(Drop)]
+#[derive(Clone, Copy)]
 pub enum Loaded {
     Study {
         vars: usize,
@@ -20,7 +22,7 @@ pub enum Loaded {
 }
 
 // What a file says of all crews: how many variables, actions and crews; the rest is in the tables. Or the refusal.
-#[derive(Drop)]
+#[derive(Clone, Copy)]
 pub enum Read {
     Roster {
         vars: usize,
@@ -34,7 +36,7 @@ pub enum Read {
 }
 
 // An action: its variable, pre and post, how many conditions it has, and where the first stands in the file.
-#[derive(Drop)]
+#[derive(Clone, Copy)]
 pub struct Act {
     pub var: u8,
     pub pre: u8,
@@ -44,7 +46,7 @@ pub struct Act {
 }
 
 // A variable: how many values it has, its start and its goal.
-#[derive(Drop)]
+#[derive(Clone, Copy)]
 pub struct Var {
     pub count: u8,
     pub start: u8,

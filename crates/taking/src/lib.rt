@@ -1,4 +1,6 @@
 // Takes one ready walk action after another, always the one of least rank.
+#![tactic(auto)]
+
 ghost use Rattle.std.specs.Prelude.{◌≡◌, length};
 ghost use Rattle.ranks.specs.Ranks.{Inverse};
 ghost use Rattle.study.specs.Study.{Study};

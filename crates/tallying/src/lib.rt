@@ -1,4 +1,6 @@
 // How often each action stands at each position of plans that are kept beside one another.
+#![tactic(auto)]
+
 ghost use Rattle.std.specs.Prelude.{◌≡◌, List, ◌++◌, ℕ, ◌+◌, ◌*◌, ◌≤◌, length, take, drop, replicate};
 ghost use Rattle.varied.specs.Figures.{rows};
 ghost use Rattle.matching.specs.Kept.{Kept, RoomFor, KeptBelow};

@@ -1,4 +1,6 @@
 // What one crew has of a file that was read: its tasks entered, its seed; or the refusal of a file that was not.
+#![tactic(auto)]
+
 ghost use Rattle.std.specs.Prelude.{◌≡◌, ◌+◌, ◌*◌, ◌≤◌, length};
 ghost use Rattle.study.specs.Study.{Crew};
 ghost use Rattle.tables.specs.Tables.{HoldsTasks, HoldsCrew, seed_at_lem};

@@ -1,4 +1,6 @@
 // What the program prints of an answer: a refusal's line, or the lines of a plan.
+#![tactic(auto)]
+
 pub mod text;
 
 ghost use Rattle.std.specs.Prelude.{◌≡◌, ◌+◌, ◌≤◌, ◌<◌, length, take};
@@ -6,7 +8,8 @@ ghost use Rattle.tables.specs.Rows.{var_column, pre_column, post_column};
 ghost use Rattle.telling.specs.Text.{Appends, decimal, spaced, first_line, crew_line, step_line, shown_in, plan_text, refused_line};
 
 use answer::Answer;
-use libc::STDOUT_FILENO;
+
+const STDOUT_FILENO: i32 = 1;
 
 pub fn print_refusal(answer: Answer) {
     let mut line = [0u8; 71];

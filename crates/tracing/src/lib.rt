@@ -1,4 +1,6 @@
 // Walks, traced from the goal value back.
+#![tactic(auto)]
+
 ghost use Rattle.std.specs.Prelude.{◌≡◌, ℕ, ◌+◌, ◌≤◌, ◌<◌, length};
 ghost use Rattle.study.specs.Study.{Study};
 ghost use Rattle.walks.specs.Walks.{start_of, goal_of};
@@ -7,7 +9,7 @@ ghost use Rattle.tracing.specs.Facts.{MovesIn, Tells};
 ghost use Rattle.tracing.specs.Steps.{SetterIs, told, Traces, EmptyRow, WalksAll};
 
 // The action in force that sets a variable to a value, or that none does.
-#[derive(Drop)]
+#[derive(Clone, Copy)]
 pub enum Named {
     Is(usize),
     Nobody,
@@ -23,7 +25,7 @@ const CAME_ROUND: u8 = 255;
 
 // The start was met, with how many actions the walk has; or the trace came to a value that no action in force sets; or it
 // came round.
-#[derive(Drop)]
+#[derive(Clone, Copy)]
 pub enum Traced {
     Met(u8),
     Breaks(u8),
@@ -32,7 +34,7 @@ pub enum Traced {
 
 // Every variable has a walk, with the number of all their actions; or the lowest variable that has none, with the value
 // that no action in force sets, or 255 where the trace comes round.
-#[derive(Drop)]
+#[derive(Clone, Copy)]
 pub enum Walked {
     All(usize),
     NoWalk { var: usize, value: u8 },

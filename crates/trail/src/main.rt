@@ -5,11 +5,16 @@
 // for one byte more than the longest file has. Of the log, what is announced and does not come is left out.
 // The output is the line `replayed` with how many events were done and held, or a refusal's line. Behind it stand the occupant's
 // records, 40 bytes each: at the crew's start, and after each event; of a log that is refused, those before the event that is.
+#![tactic(auto)]
+
 ghost use Rattle.std.specs.Prelude.{◌≤◌, ◌≡◌, length};
 ghost use Rattle.trail_call.specs.Input.{input_length};
 
 use answer::Answer;
-use libc::{STDIN_FILENO, STDOUT_FILENO};
+
+const STDIN_FILENO: i32 = 0;
+
+const STDOUT_FILENO: i32 = 1;
 
 // A head of 12 bytes, 16,385 events, and one byte more than the longest file has.
 const INPUT: usize = 92035;

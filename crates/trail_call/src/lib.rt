@@ -1,4 +1,6 @@
 // What the program `trail` does with the bytes it was given: it cuts them into a crew, a log and a file, and replays the log or its beginning.
+#![tactic(auto)]
+
 ghost use Rattle.std.specs.Prelude.{◌≤◌, ◌≡◌, length, take};
 ghost use Rattle.replays.specs.Replay.{ReplayAllows};
 ghost use Rattle.trail_call.specs.Input.{input_length, crew_in, log_in, file_in};

@@ -1,4 +1,6 @@
 // How many crews a program takes in turn.
+#![tactic(auto)]
+
 ghost use Rattle.std.specs.Prelude.{◌≡◌};
 ghost use Rattle.study.specs.Reading.{reading};
 ghost use Rattle.turns.specs.Turns.{turns_in};

@@ -1,4 +1,6 @@
 // Numbers below 64 that are tied, each with a word of those tied before it: all that chains of ties put before it, in place.
+#![tactic(auto)]
+
 ghost use Rattle.std.specs.Prelude.{◌≡◌, ◌↔◌, ℕ, ◌≤◌, length};
 ghost use Rattle.orders.specs.Orders.{Counted, Chain};
 ghost use Rattle.linking.specs.Linking.{Anyone, ClosesTo};

@@ -1,1 +1,2 @@
 // How varied the plans of so many seeds are: the figures, by counting; plain mathematics, no code.
+#![tactic(auto)]

@@ -1,4 +1,6 @@
 // A report on what was loaded: walks, and what comes before what, once; then the first seed settles it, or each gives a plan.
+#![tactic(auto)]
+
 ghost use Rattle.std.specs.Prelude.{◌≡◌, ℕ, ◌+◌, ◌≤◌, ◌<◌, length};
 ghost use Rattle.study.specs.Study.{Study};
 ghost use Rattle.varied.specs.Report.{Reports};

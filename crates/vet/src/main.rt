@@ -4,8 +4,13 @@
 // what does not come of these six is 0. Then come those bytes, and behind them the file: whatever is announced, there is room for one byte
 // more than the longest file has. Of actions and pairs, what is announced and does not come is left out.
 // The output is the line `chart` with how many actions and pairs there are; or a refusal's line.
+#![tactic(auto)]
+
 use answer::Answer;
-use libc::{STDIN_FILENO, STDOUT_FILENO};
+
+const STDIN_FILENO: i32 = 0;
+
+const STDOUT_FILENO: i32 = 1;
 
 // A head of 6 bytes, two lists of 65,535, and one byte more than the longest file has.
 const INPUT: usize = 157559;

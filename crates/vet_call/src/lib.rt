@@ -1,4 +1,6 @@
 // What the program `vet` does with the bytes it was given: it cuts them into actions, pairs and file, and checks the chart.
+#![tactic(auto)]
+
 ghost use Rattle.std.specs.Prelude.{◌≤◌, ◌≡◌, length};
 ghost use Rattle.charts.specs.Answers.{ChartAllows};
 ghost use Rattle.vet_call.specs.Input.{input_length, crew_in, actions_in, pairs_in, file_in};

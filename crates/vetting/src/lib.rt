@@ -1,4 +1,6 @@
 // Checks a chart of a study with at most 64 actions, whose tables are loaded: sets of actions are words.
+#![tactic(auto)]
+
 ghost use Rattle.std.specs.Prelude.{◌≡◌, ℕ, ◌≤◌, length, ◌↔◌};
 ghost use Rattle.answer.specs.Answers.{three};
 ghost use Rattle.ranks.specs.Ranks.{rising};
@@ -22,7 +24,7 @@ use ordering::Found;
 use tracing::Walked;
 
 // The walk actions in words, and how many they are; or what is answered to every chart.
-#[derive(Drop)]
+#[derive(Clone, Copy)]
 pub enum Readied {
     Words { members: u64, total: usize },
     Refused(Answer),

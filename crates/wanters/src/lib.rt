@@ -1,4 +1,6 @@
 // For each value of each variable, the set of those actions, of some that are looked at, that want it.
+#![tactic(auto)]
+
 ghost use Rattle.std.specs.Prelude.{◌≡◌, ◌||◌, ◌&&◌, ℕ, ◌≤◌, ◌<◌, eqb, length};
 ghost use Rattle.bits.specs.Bits.{within};
 ghost use Rattle.study.specs.Study.{Study};

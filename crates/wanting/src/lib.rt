@@ -1,4 +1,6 @@
 // The values that the conditions of walk actions want.
+#![tactic(auto)]
+
 ghost use Rattle.std.specs.Prelude.{◌≡◌, ℕ, ◌+◌, ◌*◌, ◌≤◌, length, get_or};
 ghost use Rattle.study.specs.Study.{Study};
 ghost use Rattle.walks.specs.Walks.{conditions_of};
@@ -7,14 +9,14 @@ ghost use Rattle.tracing.specs.Steps.{Rowed};
 ghost use Rattle.wanting.specs.Wanting.{StandAt, WantsEach, WantsAll};
 
 // Every condition is on its variable's walk; or the first of an action's conditions that is not.
-#[derive(Drop)]
+#[derive(Clone, Copy)]
 pub enum Wanted {
     All,
     Off(u8),
 }
 
 // The same over all walk actions; or the lowest that has a condition off its walk, with the condition's variable.
-#[derive(Drop)]
+#[derive(Clone, Copy)]
 pub enum Met {
     All,
     Off { action: usize, var: u8 },

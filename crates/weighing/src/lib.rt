@@ -1,4 +1,6 @@
 // What is wrong with a chart of more than 64 actions once its study is ready: its list, its pairs, the orders that they lack.
+#![tactic(auto)]
+
 ghost use Rattle.std.specs.Prelude.{◌≡◌, ℕ, length};
 ghost use Rattle.study.specs.Study.{Study};
 ghost use Rattle.stages.specs.Whole.{KnownIn};

@@ -1,4 +1,6 @@
 // The lines of facts: a word or two, and the numbers that the fact names.
+#![tactic(auto)]
+
 ghost use Rattle.std.specs.Prelude.{◌≡◌, List, ◌+◌, ◌*◌, ◌≤◌, length, take};
 ghost use Rattle.telling.specs.Text.{Appends};
 ghost use Rattle.explained.specs.Facts.{Fact, row_of, rows_of, kind_of, word_of, numbers_of, fact_line, fact_lines};

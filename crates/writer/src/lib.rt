@@ -1,4 +1,6 @@
 // Writes a study file from lists: judged first, so that a refusal alters nothing.
+#![tactic(auto)]
+
 ghost use Rattle.std.specs.Prelude.{◌≡◌};
 ghost use Rattle.answer.specs.Answers.{refusal};
 ghost use Rattle.spelling.specs.Write.{WriteAllows};

@@ -1,4 +1,6 @@
 // Writes a study file from lists that were judged good: one record after another, each byte once.
+#![tactic(auto)]
+
 ghost use Rattle.std.specs.Prelude.{◌≡◌, ◌++◌, map, ◌*◌, ◌%◌, ◌≤◌, length, drop, ltb};
 ghost use Rattle.plain.specs.Choose.{pick};
 ghost use Rattle.study.specs.Study.{Roster};
