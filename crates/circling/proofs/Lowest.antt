@@ -39,8 +39,8 @@ module _ {t : Study} where
   pub lowest_of_one :
       {P : ℕ → Type 0} {left : List ℕ} {one low r : ℕ} → LeftAre t left → one < 256 → P one → ((i : ℕ) → Stuck t i → P i → i ≡ one)
       → LowerOf left low one r → LowestBelow t P low r
-  lowest_of_one {one = one} left-are small has only lower = record {
+  lowest_of_one {one = one} left_are small has only lower = record {
     most = lower.most;
-    lowest = λ i s p. let e = only i s p in rw e (lower.lower ((left-are one small).1 (rw e at s)));
-    is = λ d. let (e, w) = lower.is d in (rw e ((left-are one small).0 w), rw e has);
+    lowest = λ i s p. let e = only i s p in rw e (lower.lower ((left_are one small).1 (rw e at s)));
+    is = λ d. let (e, w) = lower.is d in (rw e ((left_are one small).0 w), rw e has);
   }

@@ -68,7 +68,7 @@ module _
             there : within (get_or wanters (16 * x + y) []) i ≡ true
             there =
                 noted i small
-                ∙ rw (lt-ltb i (length t.actions) (stuck_there b), (s.left-are i small).1 b)
+                ∙ rw (lt-ltb i (length t.actions) (stuck_there b), (s.left_are i small).1 b)
                 (wants_tells (conditions_of t i) x y (rw (is_var, is_pre) w))
         first i b w (no n) = omega arith
 
@@ -76,7 +76,7 @@ module _
         only h e =
             let (_, both) = (and-eq-true_iff (ltb r (length t.actions)) (within left r && wants (conditions_of t r) x y)).0 (sym (noted r h) ∙ e) in
             let (among, wanting) = (and-eq-true_iff (within left r) (wants (conditions_of t r) x y)).0 both in
-            ((s.left-are r h).0 among, rw (is_var, is_pre) at (wants-told (conditions_of t r) x y wanting))
+            ((s.left_are r h).0 among, rw (is_var, is_pre) at (wants-told (conditions_of t r) x y wanting))
 
     first_told : get_or firsts x 0 ≡ start_of t (var_of t j)
     first_told = rw is_var (s.starts (var_of t j) var_there)
@@ -89,7 +89,7 @@ module _
     lowest_sets_left off lower =
         let (i, set) = left_is_set (stuck_on_walk stuck) (λ e. off (is_pre ∙ e ∙ sym first_told)) in
         let named = set_by_named s set in
-        lowest_of_one s.left-are (omega (arith, s.lawful.few_actions, set.usable.there)) (set.var, set.post)
+        lowest_of_one s.left_are (omega (arith, s.lawful.few_actions, set.usable.there)) (set.var, set.post)
         (λ m b (f, g). sym (set_by_named s (record { usable = on_walk_usable (stuck_on_walk b); var = f; post = g })) ∙ named)
         (rw (is_var, is_pre, named) at lower)
 

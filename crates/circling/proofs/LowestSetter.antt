@@ -117,7 +117,7 @@ module _
       lowest_here off lower =
           let (i, set) = value_is_set (s.met j (stuck_on_walk b) x y wanted_here) (λ e. off (e ∙ sym first_here)) in
           let named = set_by_named s set in
-          lowest_of_one s.left-are (omega (arith, s.lawful.few_actions, set.usable.there))
+          lowest_of_one s.left_are (omega (arith, s.lawful.few_actions, set.usable.there))
           (var_here ∙ sym set.var, value_here ∙ sym set.post)
           (λ m c (f, g). sym (set_by_named s (record { usable = on_walk_usable (stuck_on_walk c); var = sym f ∙ var_here; post = sym g ∙ value_here })) ∙ named)
           (rw named at lower)

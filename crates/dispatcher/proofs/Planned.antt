@@ -37,9 +37,9 @@ come (refused number place) lawful numbered ranks p c = rw c (λ z. omega (arith
 come (says t) lawful numbered ranks (no_plan r) c = plans_sound c
 come (says t) lawful numbered ranks (the_plan actions list) c =
     let s = plans_sound c in
-    let straight = s.first-plan.straight in
+    let straight = s.first_plan.straight in
     record {
-      many = s.count ∙ sym (fine_is_rank_list s.fine).an-entry-for-each;
+      many = s.count ∙ sym (fine_is_rank_list s.fine).an_entry_for_each;
       few = straight_plan_short lawful straight;
       low = λ i h. omega (arith, (straight_usable straight i h).there, lawful.few_actions);
     }

@@ -96,4 +96,4 @@ module _ (seed count : ℕ) (before : List ℕ) (done-0 : (draw_answer seed coun
   pub answer_0_leaves_a_rank_list : RankList count (take count (draw_leaves seed count before))
   answer_0_leaves_a_rank_list =
       let list = drawn_is_rank_list seed count in
-      rw (answer_0_leaves, take_at (drawn seed count) (drop count before) count list.an-entry-for-each) list
+      rw (answer_0_leaves, take_at (drawn seed count) (drop count before) count list.an_entry_for_each) list

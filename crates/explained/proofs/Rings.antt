@@ -148,7 +148,7 @@ module _ (t : Study) where
   same_path seen x (y ∷ xs) (z ∷ ys) end last n m e f (v, along) (w, other) =
       let d : y ≡ z = waits_on_once v w in
       let (p, q) =
-      same_path (Plus x seen) y xs ys end last n.1 (rw (← d) at m.1) e (rw (← d) at f) along (rw (← d) at other) in
+      same_path (Plus x seen) y xs ys end last n.1 (rw (← d) at m.1) e (subst (λ (w : ℕ). EndsIn (Plus x seen) (w ∷ ys) last) (sym d) f) along (subst (λ (w : ℕ). WaitAlong t (w ∷ ys) last) (sym d) other) in
       (cc, q)
 
 -- ---- from one form to the other
@@ -187,7 +187,10 @@ module _ {t : Study} where
 
   pub circled_once : {a b : List Fact} → Circled t a → Circled t b → a ≡ b
   circled_once {a} {b} c d =
-      c.told ∙ (rw (again, others)) ∙ sym d.told
+      c.told
+      ∙ ap (λ (x : ℕ). order_facts t (x ∷ c.others) x) again
+      ∙ ap (λ (r : List ℕ). order_facts t (d.again ∷ r) d.again) others
+      ∙ sym d.told
     where
       first : c.first ≡ d.first
       first = omega (arith, not_lower_first c d, not_lower_first d c)
@@ -204,8 +207,10 @@ module _ {t : Study} where
 
       same : (c.path_rest ≡ d.path_rest) × (c.again ≡ d.again)
       same =
-          same_path t None c.first c.path_rest d.path_rest c.again d.again (new c) (rw (← first) at (new d))
-          (ends c) (rw (← first) at (ends d)) (along c) (rw (← first) at (along d))
+          same_path t None c.first c.path_rest d.path_rest c.again d.again (new c)
+          (subst (λ (w : ℕ). NewTo None (w ∷ d.path_rest)) (sym first) (new d)) (ends c)
+          (subst (λ (w : ℕ). EndsIn None (w ∷ d.path_rest) d.again) (sym first) (ends d)) (along c)
+          (subst (λ (w : ℕ). WaitAlong t (w ∷ d.path_rest) d.again) (sym first) (along d))
 
       again : c.again ≡ d.again
       again = same.1

@@ -67,12 +67,12 @@ module _
       pub known_stranded :
           {sets : Sets} {left : List ℕ} → Noted t a (λ i. within left i) sets → LeftAre t left
           → Stranded file (start_column vars) setters sets left t
-      known_stranded noted left-are = record {
+      known_stranded noted left_are = record {
         lawful = known.lawful;
         walks = walks;
         met = met;
         starts = known_start known;
         names = rw (← known.actions.count) known.setters;
         noted = rw (← known.actions.count) noted;
-        left-are = left-are;
+        left_are = left_are;
       }

@@ -56,9 +56,9 @@ module _ (t : Study) (p : Progress) (log : List ℕ) (at : ℕ) (some : at < len
             usable : Usable t action
             usable = record { there = omega (arith, ready.count); in_force_lem = sym (ready.force action there) ∙ force }
 
-            module _ {last step : ℕ} (last-is : last ≡ p.last) (step_is : step ≡ step_at at last tick) where
+            module _ {last step : ℕ} (last_is : last ≡ p.last) (step_is : step ≡ step_at at last tick) where
               step_there : step ≡ step_at at p.last tick
-              step_there = rw (← last-is) step_is
+              step_there = rw (← last_is) step_is
 
               pub looks_23 : went_back_lem ≤ step → Looks t p log at (Refused 23)
               looks_23 h = refused_by 23 (went_back few usable (omega (arith, step_there)))

@@ -49,18 +49,18 @@ module _ {t : Study} {ranks rides : List ℕ} {start : ℕ} {before : List ℕ} 
       let rest = drop (3 * length journeys) before in
       record {
         plan = plan;
-        first-plan = first;
-        on-floor = h;
+        first_plan = first;
+        on_floor = h;
         in_order = o;
         journeys = journeys;
-        are-made = refl;
+        are_made = refl;
         count = refl;
         second = refl;
         in_front = take_at (bytes_of journeys) rest (3 * length journeys) (length_bytes journeys);
         later = drop_at (bytes_of journeys) rest (3 * length journeys) (length_bytes journeys);
         none_stays = none_stays_in_order (length t.actions) rides ((in_order_exactly (length t.actions) rides).1 o) start plan;
         joined = joined given 0 start plan;
-        rides-in-order = unpreceded_are_rides given 0 start plan;
+        rides_in_order = unpreceded_are_rides given 0 start plan;
         at_most_twice = (at_most_twice given 0 start plan).0;
       }
 
@@ -70,7 +70,7 @@ module _ {t : Study} {ranks rides : List ℕ} {start : ℕ} {before : List ℕ} 
   made (no_plan s) c (e, f) z = absurd (plans_sound c (ap (λ (a : Answer). a.number) (sym e) ∙ z))
   made (the_plan actions plan) {r} {after} c l z =
       let s = plans_sound c in
-      told_made s.first-plan (rw s.count at ((told_exactly actions rides start plan before r after).0 l)) z
+      told_made s.first_plan (rw s.count at ((told_exactly actions rides start plan before r after).0 l)) z
 
 pub answer_0_makes_journeys :
     (file : List ℕ) (crew : ℕ) (ranks rides : List ℕ) (start : ℕ) (before : List ℕ) (t : Study) → reading_for file crew ≡ says t

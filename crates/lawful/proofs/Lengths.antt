@@ -244,7 +244,7 @@ module _ {d : Draft} (sound : Sound d) {at : ℕ} (spaced : Placed at d) (kind :
   unfolding with manned placed
   times_placed n (is, low, high) differ =
       newest_placed low high (omega (arith, ap stage is)) 2 (within (last_action d.study) n)
-      (omega (arith, times_written n differ, ap bytes_of_times (sound.still-always low high)))
+      (omega (arith, times_written n differ, ap bytes_of_times (sound.still_always low high)))
 
   task_placed : (v p q : ℕ) → Extends (task v p q)
   unfolding with manned placed

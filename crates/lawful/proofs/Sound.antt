@@ -345,7 +345,7 @@ none_repeats_unique s e i j hi hj fi fj v p = from (dec_lt i j) (dec_lt j i)
 
 pub end_lawful :
     {d : Draft} → Sound d → d.last ≡ 5 → first_repeat d.study ≡ none → first_unused d.study ≡ none → LawfulRoster (roster_of d)
-end_lawful {d} sound last none-repeated all-used = record {
+end_lawful {d} sound last none-repeated all_used = record {
   situation = sound.situation;
   some_variable = sound.some_variable (omega (arith, ap stage last));
   few_variables = sound.counts.few;
@@ -354,7 +354,7 @@ end_lawful {d} sound last none-repeated all-used = record {
   few_actions = sound.actions.few;
   action = sound.actions.each;
   post_unique = none_repeats_unique d.study none-repeated;
-  used = none_unused d.study all-used;
+  used = none_unused d.study all_used;
   some_crew = sound.some_crew last;
   few_crews = sound.crews.few;
   crew = sound.crews.each;

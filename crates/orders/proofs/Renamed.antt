@@ -66,7 +66,7 @@ module _ {member member' : ℕ → Type 0} {before before' : ℕ → ℕ → Typ
       rw is (
         ready_back agree x m (rw (← e) at ready),
         λ y g. rw (← e) at (least (rank y) (ready_there agree y g)),
-        greedy_from (agree_plus agree x m) list (rw (← e) at rest),
+        greedy_from {taken = Plus x taken} {taken' = Plus (rank x) taken'} (agree_plus agree x m) list (rw (← e) at rest),
       )
 
   pub greedy_renamed : (list : List ℕ) → Greedy member' before' (λ r. r) None list → Greedy member before rank None (map name list)

@@ -70,9 +70,9 @@ left_over : (end a b : ℕ) → a ≤ b → end - a - (b - a) ≡ end - b
 left_over end a b h = omega (arith, h)
 
 -- the first list is `many` entries, or as many as came, and ends at `second`
-module _ (head : ℕ) (l : List ℕ) (n end many second : ℕ) (came : end - head ≡ n - head) (first-at : second - head ≡ least many (end - head)) where
+module _ (head : ℕ) (l : List ℕ) (n end many second : ℕ) (came : end - head ≡ n - head) (first_at : second - head ≡ least many (end - head)) where
   of_what_came : second - head ≡ least many (n - head)
-  of_what_came = first-at ∙ ap (least many) came
+  of_what_came = first_at ∙ ap (least many) came
 
   pub first_part : take many (behind head n l) ≡ between head second l
   first_part = part many (n - head) (second - head) (drop head l) of_what_came
@@ -85,18 +85,18 @@ module _ (head : ℕ) (l : List ℕ) (n end many second : ℕ) (came : end - hea
       ∙ ap (take (end - second)) (drop-drop (second - head) head l ∙ drop_same (head + (second - head)) second l (regained head second h))
 
 -- the second is `more` entries, or as many as came, and ends at `third`
-module _ (head : ℕ) (l : List ℕ) (n end many second : ℕ) (came : end - head ≡ n - head) (first-at : second - head ≡ least many (end - head))
+module _ (head : ℕ) (l : List ℕ) (n end many second : ℕ) (came : end - head ≡ n - head) (first_at : second - head ≡ least many (end - head))
     (h : head ≤ second) (more third : ℕ) (second_at : third - second ≡ least more (end - second)) where
   pub second_part : take more (drop many (behind head n l)) ≡ between second third l
   second_part =
-      ap (take more) (behind_first head l n end many second came first-at h)
+      ap (take more) (behind_first head l n end many second came first_at h)
       ∙ part more (end - second) (third - second) (drop second l) second_at
 
   pub third_part : second ≤ third → drop (many + more) (behind head n l) ≡ between third end l
   third_part apart =
       let left = end - second - (third - second) in
       sym (drop-drop more many (behind head n l))
-      ∙ ap (drop more) (behind_first head l n end many second came first-at h)
+      ∙ ap (drop more) (behind_first head l n end many second came first_at h)
       ∙ rest more (end - second) (third - second) (drop second l) second_at
       ∙ ap (take left) (drop-drop (third - second) second l ∙ drop_same (second + (third - second)) third l (regained second third apart))
       ∙ take_same left (end - third) (drop third l) (left_over end second third apart)

@@ -158,7 +158,7 @@ rank_list_is_fine {ranks} {n} r = go (says ranks n)
   where
     go : {s : Tested} → Says ranks n s → s ≡ Fine
     go (all_good e good) = refl
-    go (other_length o) = absurd (o r.an-entry-for-each)
+    go (other_length o) = absurd (o r.an_entry_for_each)
     go (bad_at b) = absurd (good_not_bad b (record { small = entry_of_rank_list_below r; differ = entries_of_rank_list_differ r }) b.there)
 
 pub length_is_wrong : (ranks : List ℕ) (n : ℕ) → (tested ranks n ≡ Length) ↔ (length ranks ≢ n)

@@ -63,7 +63,7 @@ all_below m (x ∷ xs) full (suc i) h =
 
 pub entry_of_rank_list_below : {n : ℕ} {l : List ℕ} → RankList n l → (i : ℕ) → i < n → get_or l i 0 < n
 entry_of_rank_list_below {n} {l} r i h =
-    all_below n l (omega (arith, below_of_once l n r.holds-each-once)) i (omega arith)
+    all_below n l (omega (arith, below_of_once l n r.holds_each_once)) i (omega arith)
 
 counted : (k : ℕ) (l : List ℕ) (i : ℕ) → i < length l → get_or l i 0 ≡ k → 1 ≤ count k l
 counted k [] i h e = absurd (not-suc-le-zero h)
@@ -82,7 +82,7 @@ counted_twice k (x ∷ xs) (suc i) (suc j) b h e f =
 pub entries_of_rank_list_differ : {n : ℕ} {l : List ℕ} → RankList n l → (i j : ℕ) → i < j → j < n → get_or l i 0 ≢ get_or l j 0
 entries_of_rank_list_differ {n} {l} r i j b h e =
     let k = get_or l j 0 in
-    omega (arith, counted_twice k l i j b (omega arith) e refl, r.holds-each-once k (entry_of_rank_list_below r j h))
+    omega (arith, counted_twice k l i j b (omega arith) e refl, r.holds_each_once k (entry_of_rank_list_below r j h))
 
 -- ---- the other way
 
@@ -140,8 +140,8 @@ module _ (l : List ℕ) (at-most-once : (k : ℕ) → count k l ≤ 1) where
 pub rank_list_of_entries : {n : ℕ} (l : List ℕ) → length l ≡ n → ((i : ℕ) → i < n → get_or l i 0 < n)
     → ((i j : ℕ) → i < j → j < n → get_or l i 0 ≢ get_or l j 0) → RankList n l
 rank_list_of_entries {n} l e small differ = record {
-  an-entry-for-each = e;
-  holds-each-once =
+  an_entry_for_each = e;
+  holds_each_once =
       once_of_below l (λ k. counted_at_most_once k l (λ i j b h. differ i j b (omega arith))) n
       (omega (arith, below_of_all n l (λ i h. small i (omega arith))));
 }

@@ -63,8 +63,8 @@ count-exchanged k l i j hi hj =
 
 pub exchanged_keeps_rank_list : {n : ℕ} {l : List ℕ} (i j : ℕ) → i < n → j < n → RankList n l → RankList n (exchanged l i j)
 exchanged_keeps_rank_list {n} {l} i j hi hj r = record {
-  an-entry-for-each = length_exchanged l i j ∙ r.an-entry-for-each;
-  holds-each-once = λ k h. count-exchanged k l i j (omega arith) (omega arith) ∙ r.holds-each-once k h;
+  an_entry_for_each = length_exchanged l i j ∙ r.an_entry_for_each;
+  holds_each_once = λ k h. count-exchanged k l i j (omega arith) (omega arith) ∙ r.holds_each_once k h;
 }
 
 -- ---- the rising list is a rank list
@@ -83,4 +83,4 @@ count-rising k (suc n) h = count-append k (rising n) (n ∷ []) ∙ go (ℕ_disc
     go (no d) before = rw (ne_eqb n k d) (omega (arith, before (omega arith)))
 
 pub rising_is_rank_list : (n : ℕ) → RankList n (rising n)
-rising_is_rank_list n = record { an-entry-for-each = length-rising n; holds-each-once = λ k h. count-rising k n h }
+rising_is_rank_list n = record { an_entry_for_each = length-rising n; holds_each_once = λ k h. count-rising k n h }

@@ -86,7 +86,7 @@ module _ (n : ℕ) (zs : List ℕ)
           place_of_counted m l
           (omega (
             arith,
-            p.rank_list.holds-each-once m
+            p.rank_list.holds_each_once m
                 (omega (arith, rank_from m h p, entry_of_rank_list_below p.rank_list j (below m h))),
           ))
 
@@ -94,11 +94,11 @@ module _ (n : ℕ) (zs : List ℕ)
       i = at_m.place
 
       i_below : i < n
-      i_below = omega (arith, at_m.there, p.rank_list.an-entry-for-each)
+      i_below = omega (arith, at_m.there, p.rank_list.an_entry_for_each)
 
       here : (k : ℕ) → Dec (k ≡ m) → k < suc m → get_or (exchanged l i j) (get_or zs k 0) 0 ≡ k
       here k (yes e) g =
-          rw e (exchanged_second l i j (omega (arith, below m h, p.rank_list.an-entry-for-each)) ∙ at_m.holds)
+          rw e (exchanged_second l i j (omega (arith, below m h, p.rank_list.an_entry_for_each)) ∙ at_m.holds)
       here k (no d) g =
           let b : k < m = omega arith in
           exchanged_other l i j (get_or zs k 0)

@@ -1,4 +1,1 @@
 pub mod Laws
-mod Calls
-mod Held
-mod Thin

@@ -72,10 +72,10 @@ set_by_named {setters = setters} s {i = i} set = names_usable setters refl s.nam
 pub least_left_is_lowest :
     {file firsts setters : List ℕ} {sets : Sets} {left : List ℕ} {t : Study} → Stranded file firsts setters sets left t
     → {i r : ℕ} → Stuck t i → LeastMember left r → Stuck t r × ((k : ℕ) → k < r → Stuck t k → ⊥)
-least_left_is_lowest {left = left} {t = t} s {i} {r} stuck least = ((s.left-are r small).0 (least.there small), none_below)
+least_left_is_lowest {left = left} {t = t} s {i} {r} stuck least = ((s.left_are r small).0 (least.there small), none_below)
   where
     is_left : {k : ℕ} → Stuck t k → within left k ≡ true
-    is_left {k} b = (s.left-are k (stuck_small s.lawful b)).1 b
+    is_left {k} b = (s.left_are k (stuck_small s.lawful b)).1 b
 
     none_below : (k : ℕ) → k < r → Stuck t k → ⊥
     none_below k h b = not_both (is_left b) (least.none_below k h)

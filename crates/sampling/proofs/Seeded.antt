@@ -46,7 +46,7 @@ module _ (seed actions : ℕ) (low : 1 ≤ seed) (high : seed < 2147483647) (few
   drawn_front = drawn-stands seed actions low (omega arith) few before ranks enough leaves
 
   pub front_long : actions ≡ length (take actions ranks)
-  front_long = sym (ap length drawn_front ∙ (drawn_is_rank_list seed actions).an-entry-for-each)
+  front_long = sym (ap length drawn_front ∙ (drawn_is_rank_list seed actions).an_entry_for_each)
 
   pub front_list : RankList actions (take actions ranks)
   front_list = rw drawn_front (drawn_is_rank_list seed actions)
@@ -57,10 +57,10 @@ module _ {e : Extent} {members : ℕ} {words : List ℕ} {t : Study} (once : Ord
   list_of = rw once.actions at list
 
   pub members_below : Below (length ranks) members
-  members_below i h = omega (arith, (on_walk_usable (once.by_action.only_members i h)).there, once.actions, list.an-entry-for-each)
+  members_below i h = omega (arith, (on_walk_usable (once.by_action.only_members i h)).there, once.actions, list.an_entry_for_each)
 
   pub ranks_low : e.actions ≤ 64 → Ranked ranks
-  ranks_low few i h = omega (arith, rank_below list i h, list.an-entry-for-each)
+  ranks_low few i h = omega (arith, rank_below list i h, list.an_entry_for_each)
 
   pub once_ordered : {ranked : ℕ} {before : List ℕ} → Renamed ranks members ranked → Reworded members words ranks before → Ordered t ranks ranked before
   once_ordered = ranked_orders once.by_action (rank_list_apart list_of)
@@ -74,4 +74,4 @@ module _
     counted_list = rw counted.deeds.actions at list
 
     pub counted_beside : WantsCounted file n (length ranks) total vars posts places manys starts steps wants t
-    counted_beside = rw (← list.an-entry-for-each) at counted
+    counted_beside = rw (← list.an_entry_for_each) at counted

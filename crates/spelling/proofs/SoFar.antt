@@ -195,7 +195,7 @@ module _ {d : Draft} (sound : Sound d) (at kind : ℕ) where
       simp (
         no_crew_yet d.last (omega arith) (sound.no_crews few) (sound.no_tasks few),
         no_crew_yet kind unseeded (sound.no_crews few) (sound.no_tasks few),
-        newest_more d.study.actions (length d.study.actions - 1) f r (omega (arith, sound.some_action low high)) (sound.still-always low high) behind,
+        newest_more d.study.actions (length d.study.actions - 1) f r (omega (arith, sound.some_action low high)) (sound.still_always low high) behind,
         append_assoc,
         append-nil,
       )

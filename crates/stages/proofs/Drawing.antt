@@ -23,7 +23,7 @@ pub drawn-stands :
     (seed a : ℕ) → 1 ≤ seed → seed ≤ 2147483646 → a ≤ 256 → (before ranks : List ℕ) → a ≤ length before → ranks ≡ draw_leaves seed a before
     → take a ranks ≡ drawn seed a
 drawn-stands seed a low high few before ranks enough e =
-    front ∙ take_at (drawn seed a) (drop a before) a (drawn_is_rank_list seed a).an-entry-for-each
+    front ∙ take_at (drawn seed a) (drop a before) a (drawn_is_rank_list seed a).an_entry_for_each
   where
     front : take a ranks ≡ take a (drawn seed a ++ drop a before)
     front = rw (e, not_refused seed a (length before) low high few enough)

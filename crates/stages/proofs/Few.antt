@@ -40,7 +40,7 @@ module _
     {members : ℕ} {words names : List ℕ} (ordered : Ordered t ranks members words) (turned : Turned ranks names)
   where
     as_many : length ranks ≡ length t.actions
-    as_many = list.an-entry-for-each
+    as_many = list.an_entry_for_each
 
     by_rank : Ranked (OnAWalk t) (InWord members) (ComesBefore t) (DirectlyBefore words) (λ i. get_or ranks i 0) (λ r. get_or names r 0)
     by_rank = record {

@@ -125,7 +125,7 @@ module _
 
     -- there is a rank for each action
     pub as_many_ranks : length ranks ≡ a
-    as_many_ranks = (fine_is_rank_list given.ranked).an-entry-for-each
+    as_many_ranks = (fine_is_rank_list given.ranked).an_entry_for_each
 
     -- walking came to the end
     pub given_walking :
@@ -191,7 +191,7 @@ module _
 
 module _ {a : ℕ} {ranks : List ℕ} (list : RankList a ranks) where
   pub own_length : RankList (length ranks) ranks
-  own_length = rw list.an-entry-for-each list
+  own_length = rw list.an_entry_for_each list
 
   pub list_apart : Apart ranks
   list_apart = rank_list_apart own_length
@@ -201,7 +201,7 @@ module _ {total : ℕ} {t : Study} (orderly : Orderly total t) where
   orderly_few = omega (arith, few_in_all orderly.lawful orderly.members, orderly.counted)
 
   pub few_ranks : {ranks : List ℕ} → RankList (length t.actions) ranks → length ranks ≤ 256
-  few_ranks list = omega (arith, list.an-entry-for-each, orderly.lawful.few_actions)
+  few_ranks list = omega (arith, list.an_entry_for_each, orderly.lawful.few_actions)
 
   pub orderly_taken :
       {ranks : List ℕ} → RankList (length t.actions) ranks → (k : ℕ) (room : List ℕ) → TakenGreedily t ranks (take k (drop 256 room))
@@ -235,5 +235,5 @@ module _
       members = counted.orderly.members;
       counted = counted.orderly.counted;
       wanted = counted.wanted counted.orderly.list counted.orderly.members;
-      at-start = λ v h. begins.start v h ∙ counted.tells_starts v h;
+      at_start_lem = λ v h. begins.start v h ∙ counted.tells_starts v h;
     }

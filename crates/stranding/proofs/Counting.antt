@@ -57,7 +57,7 @@ module _
       untaken_counted wants r counted = record {
         orderly = untaken.orderly;
         variables = untaken.variables;
-        deeds = rw list.an-entry-for-each (held_deeds untaken.orderly.lawful untaken.actions);
+        deeds = rw list.an_entry_for_each (held_deeds untaken.orderly.lawful untaken.actions);
         tells_starts = untaken.tells_starts;
         rowed = untaken.rowed;
         wanted = counts_all wants r untaken.orderly.met counted;

@@ -83,6 +83,7 @@ module _ {t : Study} (lawful : Lawful t) where
 
   comes_among :
       (first : ℕ) (outcomes : List Outcome) (o : Outcome) → Come t first outcomes → Among o outcomes → (seed : ℕ) × ComesTo t seed o
+  comes_among first [] o _ among = elim among [ ]
   comes_among first (other ∷ rest) o (c, later) (inl e) = (first, rw e c)
   comes_among first (other ∷ rest) o (c, later) (inr h) = comes_among (suc first) rest o later h
 

@@ -5,7 +5,7 @@ use native.Mathlib.Omega.{arith}
 use mathlib.Core.Path.{◌≡◌, refl, sym, ◌∙◌}
 use mathlib.Core.Logic.{◌↔◌}
 use mathlib.Core.Bool.{Bool, true, false, false≢true}
-use mathlib.Core.List.{List, [], ◌∷◌, ◌++◌}
+use mathlib.Core.List.{List}
 use lib.ListN.{length, get_or, take, replicate}
 use lib.Seq.{take-suc}
 use Rattle.bits.specs.Bits.{bit}
@@ -18,7 +18,7 @@ use Rattle.ranking.proofs.Fine.{rank_list_is_fine}
 use Rattle.study.specs.Study.{Study}
 use Rattle.orders.specs.Orders.{In}
 use Rattle.orders.proofs.Lists.{in_decided}
-use Rattle.walks.specs.Walks.{OnAWalk, ComesBefore}
+use Rattle.walks.specs.Walks.{OnAWalk}
 use Rattle.walks.proofs.Leads.{on_walk_usable}
 use Rattle.tables.specs.Tables.{ActionTables}
 use Rattle.ordering.specs.Ordering.{Ordered}

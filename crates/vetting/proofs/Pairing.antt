@@ -2,12 +2,11 @@
 -- Assumes nothing.
 use Prim.Native.Nat.{ℕ, ◌<◌}
 use native.Mathlib.Omega.{arith}
-use mathlib.Core.Path.{◌≡◌, refl}
+use mathlib.Core.Path.{◌≡◌}
 use mathlib.Core.Logic.{◌↔◌}
 use mathlib.Core.List.{List}
 use lib.ListN.{length}
 use Rattle.answer.specs.Answers.{refusal}
-use Rattle.answer.specs.declared.Answer.{Answer}
 use Rattle.study.specs.Study.{Study}
 use Rattle.orders.specs.Orders.{In, Chain, OnRing}
 use Rattle.orders.proofs.Chains.{chain-within}
@@ -17,7 +16,6 @@ use Rattle.linking.specs.declared.Closed.TheVariants.{Chains, Circle}
 use Rattle.listing.specs.Listing.{LinkedBy, LinksTo}
 use Rattle.lacking.specs.Lacking.{LacksOf, nothing, two}
 use Rattle.lacking.specs.declared.Lack.{Lack}
-use Rattle.lacking.specs.declared.Lack.TheVariants.{Nothing, Two}
 use Rattle.charts.specs.Charts.{Pair, Chart}
 use Rattle.charts.specs.Faults.{NoneAstray, Chained, Direct}
 use Rattle.charts.specs.Answers.{Listed, WellPaired, Uncircled, Charts, astray, lacking, fine}

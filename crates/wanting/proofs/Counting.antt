@@ -1,6 +1,6 @@
 -- Laws of what conditions want and of how many actions of a list want a value.
 -- Assumes nothing.
-use mathlib.Core.Path.{◌≡◌, refl, sym, ap, ◌∙◌}
+use mathlib.Core.Path.{◌≡◌, refl, sym, ap, ◌∙◌, subst}
 use mathlib.Core.Logic.{◌⊎◌, inl, inr, ◌≢◌}
 use mathlib.Core.Bool.{Bool, true, false, ◌&&◌, ◌||◌, and-eq-true_iff, or-true, true≢false}
 use mathlib.Core.List.{List, [], ◌∷◌, ◌++◌}
@@ -111,7 +111,7 @@ less t x (z ∷ ys) (inr h) =
       others = λ y d h. elim h [ inl f ↦ inl f | inr g ↦ inr (w.others y d g) ];
       only = λ y h. elim h [ inl f ↦ inl f | inr g ↦ inr (w.only y g) ];
       once = λ d. (λ g. d.0 (w.only z g), w.once d.1);
-      gone = λ d k. elim k [ inl e ↦ d.0 (rw e at h) | inr g ↦ w.gone d.1 g ];
+      gone = λ d k. elim k [ inl e ↦ d.0 (subst (λ (v : ℕ). In v ys) e h) | inr g ↦ w.gone d.1 g ];
     }
 
 module _ (t : Study) (u q : ℕ) where

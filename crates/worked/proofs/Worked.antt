@@ -47,18 +47,18 @@ each_row (row ∷ rest) other t (suc k) h = each_row rest other (both_right (tes
 -- the one test that antt computes
 every_row_right : T (every_row table)
 unfolding
-    table Table.porter Table.pair Table.pairAndFree Table.round Table.lent test Rows.outcome
-    Reading.reading Reading.read_on Reading.verdictAt Reading.judged Reading.unless Reading.taken Reading.with Reading.manned Reading.placed
-    Reading.fault Reading.faultIn Reading.above Reading.sets Reading.repeatFrom Reading.mayFollow Reading.decoded Study.inForce Uses.uses Uses.named Uses.unusedFrom Bits.bit
-    Records.recordAt Records.recordOf Records.bodyLength Records.bodyLengths
-    Ranking.tested Ranking.testedFrom Ranking.among
-    Run.ran Run.runOn Run.failing Run.barred Run.held Run.away
-    Reference.planned Reference.leftOut Reference.chosen Straights.straightPlans
-    Barring.barred Barring.offAction Barring.offVariable Barring.lowestWithout Barring.wantsOff
-    Meeting.onWalk Meeting.valueOn Meeting.comesBefore Meeting.wants Meeting.walkActions
-    Traces.walk_of Traces.breakOf Traces.trace Traces.tracedBack Traces.setterFrom
+    table Table.porter Table.pair Table.pair_and_free Table.round Table.lent test Rows.outcome
+    Reading.reading Reading.read_on Reading.verdict_at Reading.judged Reading.unless Reading.taken Reading.with Reading.manned Reading.placed
+    Reading.fault Reading.fault_in Reading.above Reading.sets Reading.repeat_from Reading.may_follow_lem Reading.decoded Study.in_force Uses.uses Uses.named Uses.unused_from Bits.bit
+    Records.record_at_lem Records.record_of Records.body_length_lem Records.body_lengths
+    Ranking.tested Ranking.tested_from Ranking.among
+    Run.ran Run.run_on Run.failing Run.barred Run.held Run.away
+    Reference.planned Reference.left_out_lem Reference.chosen Straights.straight_plans
+    Barring.barred Barring.off_action Barring.off_variable Barring.lowest_without Barring.wants_off
+    Meeting.on_walk Meeting.value_on Meeting.comes_before Meeting.wants Meeting.walk_actions
+    Traces.walk_of Traces.break_of Traces.trace Traces.traced_back Traces.setter_from
     Searching.lowest Searching.least Searching.better Searching.passing
-    Choosing.ready Choosing.greedily Listing.orders Listing.startingWith
+    Choosing.ready Choosing.greedily Listing.orders Listing.starting_with
     Tests.among Tests.every Tests.any
 every_row_right = tt
 

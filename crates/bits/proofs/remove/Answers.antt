@@ -1,0 +1,13 @@
+-- `bits::remove` meets its contract: its bit is no longer set in its word, and no other bit of any word changes.
+-- Assumes nothing.
+use mathlib.Core.Path.{refl}
+use mathlib.Core.Bool.{not, ◌&&◌}
+use native.Mathlib.Omega.{arith}
+use borrow.Author.Rules.{rules}
+use Rattle.bits.proofs.Members.{changed_member}
+use Rattle.bits.proofs.remove.Goals as goal
+
+pub returns : goal.returns
+returns c =
+    let a = c.before.before.args in
+    record { long = search rules; members = changed_member (λ a b. not a && b) (λ b. refl) a.set.now a.i _ (omega arith) c.without_bit.ensures }

@@ -1,0 +1,17 @@
+-- `checker::check` meets its contract: its tables are as long as their types say, so what is loaded is what the file says.
+-- Assumes nothing.
+use mathlib.Core.Path.{refl}
+use Rattle.tables.proofs.Fresh.{fresh_sized}
+use Rattle.checker.proofs.check.Goals as goal
+
+pub returns-in-Roster : goal.returns-in-Roster
+returns-in-Roster c =
+    let l = rw c.in-Roster.is at
+    (c.load-read.ensures fresh_sized refl) in
+    rw (l.1, l.2.actions.count, l.2.counts.count)
+
+pub returns-in-Refused : goal.returns-in-Refused
+returns-in-Refused c =
+    let l = rw c.in-Refused.is at
+    (c.load-read.ensures fresh_sized refl) in
+    rw l

@@ -1,0 +1,49 @@
+-- `hanging::take_looking` meets its contract: each round takes the least of those left that has nothing left before it.
+-- Assumes nothing.
+use mathlib.Core.List.{List}
+use Prim.Native.Nat.{ℕ, ◌-◌, ◌≤◌, ◌<◌}
+use native.Mathlib.Decide.{dec_lt}
+use native.Mathlib.Omega.{arith}
+use Rattle.hanging.specs.Hanging.{InWord, Free, LeastFree}
+use Rattle.hanging.proofs.Left.{left_begins, left_on, ends_none_free, ends_all_taken}
+use Rattle.hanging.proofs.Named.{named_begins, named_on}
+use Rattle.hanging.proofs.take_looking.Goals as goal
+
+-- none that is free is below it
+none-lower : {before : List ℕ} {left y : ℕ} → LeastFree before left y → (z : ℕ) → InWord left z → Free before left z → y ≤ z
+none-lower {y = y} low z l f = go (dec_lt z y)
+  where
+    go : Dec (z < y) → y ≤ z
+    go (yes h) = absurd (low.least z h l f)
+    go (no n) = omega arith
+
+pub loop-k-init : goal.loop-k-init
+loop-k-init c = (omega arith, (_, (left_begins c.args.members c.args.before.now, named_begins c.args.room.now c.requires.1)))
+
+pub returns-then-y-ge64 : goal.returns-then-y-ge64
+returns-then-y-ge64 c =
+    let (few, (list, (left, names))) = c.loop-k.invariant in
+    record { upper_bound = (few, names.long); taken_by_name = record { list = list; greedy = ends_none_free left (c.least_free-y.ensures.none c.if-y-ge64.true); named = names.names } }
+
+pub overflow_add-room : goal.overflow_add-room
+overflow_add-room c = omega arith
+
+pub bounds-room-k : goal.bounds-room-k
+bounds-room-k c = omega arith
+
+pub overflow_add-k : goal.overflow_add-k
+overflow_add-k c = omega arith
+
+pub loop-k-smaller : goal.loop-k-smaller
+loop-k-smaller c = omega arith
+
+pub loop-k-preserved : goal.loop-k-preserved
+loop-k-preserved c =
+    let (few, (list, (left, names))) = c.loop-k.invariant in
+    let low = c.least_free-y.ensures in
+    let (own, free) = low.free (omega arith) in
+    (omega arith, (_, (left_on left own free (none-lower low) c.without_bit-left.ensures, named_on names c.least_free-y.result (omega arith) (omega arith))))
+
+pub returns : goal.returns
+returns c =
+    let (few, (list, (left, names))) = c.loop-k.invariant in record { upper_bound = (few, names.long); taken_by_name = record { list = list; greedy = ends_all_taken left c.requires.2 (omega (arith, names.count)); named = names.names } }

@@ -1,0 +1,9 @@
+-- `telling::first` meets its contract: the word, the length and the line end, each after the last.
+-- Assumes nothing.
+use native.Mathlib.Omega.{arith}
+use Rattle.telling.proofs.Placed.{then}
+use Rattle.telling.proofs.first.Goals as goal
+
+pub returns : goal.returns
+returns c =
+    (omega arith, (then c.put-a.ensures (then c.short-b.ensures.1 c.put.ensures)).text)

@@ -1,0 +1,21 @@
+-- `vet_call::vet` meets its contract: the parts lie behind the head, each as long as announced or as came.
+-- Assumes nothing.
+use Rattle.vet_call.proofs.Handed.{handed}
+use Rattle.vet_call.proofs.vet.Goals as goal
+
+pub returns : goal.returns
+returns c =
+    handed c.args.input.now c.args.n c.file_end-end.result c.pair_at.result c.pair_at-2.result
+    c.part_end-pairs.result
+    c.part_end-file.result
+    c.file_end-end.ensures.2
+    c.part_end-pairs.ensures.0
+    c.part_end-file.ensures.0
+    c.part_end-pairs.ensures.2
+    c.part_end-file.ensures.2
+    c.pair_at-3.result
+    c.chart.result
+    c.pair_at.ensures.1
+    c.pair_at-2.ensures.1
+    c.pair_at-3.ensures.1
+    c.chart.ensures
