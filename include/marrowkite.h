@@ -2,7 +2,7 @@
  * Marrowkite: the library that a host links (libmarrowkite.a; docs/HOST.md says how).
  *
  * Each call is a function of its arguments: what it answers, and every byte of the buffer afterwards, is settled by
- * the contract that it was proved against (crates/marrowkite/src/lib.rt).
+ * the contract that it was proved against (crates/marrowkite_c/src/lib.rt).
  *
  *
  * THE NUMBERS
