@@ -9,14 +9,14 @@ use lib.Dec.{eqb}
 use lib.ListN.{length, get_or, take, drop, drop_of_length-le}
 use lib.Seq.{drop-cons, get_or-take}
 use borrow.Author.Tests.{eq-eqb, ne_eqb}
+use Rattle.std.specs.Prelude.{Option, None, Some}
 use Rattle.plain.specs.Choose.{pick}
 use Rattle.study.specs.Study.{Condition, Action, condition_at, no_condition}
 use Rattle.plans.specs.Plans.{State, value_of}
 use Rattle.tables.specs.Tables.{HoldsConditions}
 use Rattle.tables.specs.declared.Act.{Act}
 use Rattle.replays.specs.Replay.{waits_for, unmet, lacks}
-use Rattle.barring.specs.declared.Stance.{Stance}
-use Rattle.barring.specs.declared.Stance.TheVariants.{Idle, Waits}
+use Rattle.barring.specs.declared.Want.{Want}
 use Rattle.barring.specs.Stances.{stance_of}
 use Rattle.barring.specs.Telling.{Tells}
 
@@ -35,7 +35,7 @@ module _ {file : List ℕ} {place many : ℕ} {cs : List Condition} (holds : Hol
   pub condition_fails :
       (k : ℕ) → k < many → Passed k
       → (get_or s (get_or file (place + 3 * k + 1) 0) 0 ≡ get_or file (place + 3 * k + 2) 0 → ⊥)
-      → Waits (record { var = get_or file (place + 3 * k + 1) 0; value = get_or file (place + 3 * k + 2) 0 }) ≡ stance_of (unmet s cs)
+      → Some (record { var = get_or file (place + 3 * k + 1) 0; value = get_or file (place + 3 * k + 2) 0 }) ≡ stance_of (unmet s cs)
   condition_fails k h passed =
       rw (holds.var k h, holds.value k h)
       (λ o. rw (← passed, unmet_at s cs k (omega (arith, holds.count)), ne_eqb _ _ o))
@@ -48,7 +48,7 @@ module _ {file : List ℕ} {place many : ℕ} {cs : List Condition} (holds : Hol
       rw (holds.var k h, holds.value k h)
       (λ e. rw (← passed, unmet_at s cs k (omega (arith, holds.count)), eq-eqb _ _ e))
 
-  pub conditions_hold : (k : ℕ) → many ≤ k → Passed k → Idle ≡ stance_of (unmet s cs)
+  pub conditions_hold : (k : ℕ) → many ≤ k → Passed k → None ≡ stance_of (unmet s cs)
   unfolding unmet
   conditions_hold k h passed = rw (← passed, drop_of_length-le cs {i = k} (omega (arith, holds.count)))
 
@@ -71,7 +71,7 @@ module _ (n : ℕ) (table : State) where
 module _ {file : List ℕ} {act : Act} {a : Action} (tells : Tells file act a) where
   pub lacks_pre :
       (s : State) (v : ℕ) → v ≡ act.var → (get_or s v 0 ≡ act.pre → ⊥)
-      → Waits (record { var = act.var; value = act.pre }) ≡ stance_of (lacks s a)
+      → Some (record { var = act.var; value = act.pre }) ≡ stance_of (lacks s a)
   unfolding lacks
   lacks_pre s v var = rw (var, tells.var, tells.pre) (λ o. rw (ne_eqb _ _ o))
 
@@ -86,7 +86,7 @@ module _ {file : List ℕ} {act : Act} {a : Action} (tells : Tells file act a) w
     )
 
     pub lacks_condition :
-        (s : State) (v : ℕ) {r : Stance} → v ≡ act.var → get_or s v 0 ≡ act.pre
+        (s : State) (v : ℕ) {r : Option Want} → v ≡ act.var → get_or s v 0 ≡ act.pre
         → ((cs : List Condition) → HoldsConditions file act.place many cs → r ≡ stance_of (unmet s cs))
         → r ≡ stance_of (lacks s a)
     unfolding lacks

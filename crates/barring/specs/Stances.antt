@@ -1,10 +1,9 @@
--- The definition's stance as the code gives it.
+-- The definition's stance as the code gives it: what is waited for, if anything is.
 -- Assumes nothing.
-use Rattle.replays.specs.Replay as Replay
-use Rattle.replays.specs.Replay.{idle, waits_for}
-use Rattle.barring.specs.declared.Stance.{Stance}
-use Rattle.barring.specs.declared.Stance.TheVariants.{Idle, Waits}
+use Rattle.std.specs.Prelude.{Option, None, Some}
+use Rattle.replays.specs.Replay.{Stance, idle, waits_for}
+use Rattle.barring.specs.declared.Want.{Want}
 
-abbrev pub stance_of : Replay.Stance → Stance
-stance_of idle = Idle
-stance_of (waits_for v q) = Waits (record { var = v; value = q })
+abbrev pub stance_of : Stance → Option Want
+stance_of idle = None
+stance_of (waits_for v q) = Some (record { var = v; value = q })

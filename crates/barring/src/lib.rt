@@ -17,40 +17,32 @@ pub struct Want {
     pub value: u8,
 }
 
-// Nothing is waited for, or a value is.
-#[derive(Clone, Copy)]
-pub enum Stance {
-    Idle,
-    Waits(Want),
-}
-
 // The first of the conditions that stand in the file from a place on which does not hold. Each takes 3 bytes: its kind,
 // variable and value.
-fn failing(file: &[u8], place: usize, many: usize, state: &[u8; 32]) -> Stance
+fn failing(file: &[u8], place: usize, many: usize, state: &[u8; 32]) -> Option<Want>
     requires { (place + 3 * many ≤ length file.now) × ((k : ℕ) → k < many → get_or file.now (place + 3 * k + 1) 0 < 32) }
     ensures { (conditions : List Condition) → HoldsConditions file.now place many conditions → result ≡ stance_of (unmet state.now conditions) }
 {
-    let mut k = 0;
-    while k < many {
+    for k in 0..many {
         let at = place + 3 * k;
         let var = file[at + 1];
         let value = file[at + 2];
         if state[tables::wide(var)] != value {
-            return Stance::Waits(Want { var, value });
+            return Some(Want { var, value });
         }
-        k += 1;
     }
-    Stance::Idle
+    None
 }
 
-// The action's own variable if it is not at pre, else that of the first condition that fails.
-pub fn barred(file: &[u8], act: Act, state: &[u8; 32]) -> Stance
+// The action's own variable if it is not at pre, else that of the first condition that fails, and the value asked of it; nothing
+// where the action may be done.
+pub fn barred(file: &[u8], act: Act, state: &[u8; 32]) -> Option<Want>
     requires { (a : Action) × Tells file.now act a }
     ensures { (a : Action) → Tells file.now act a → result ≡ stance_of (lacks state.now a) }
 {
     let value = state[tables::wide(act.var)];
     if value != act.pre {
-        return Stance::Waits(Want {
+        return Some(Want {
             var: act.var,
             value: act.pre,
         });

@@ -1,11 +1,8 @@
 // Sets of bits in words: one word, and 256 bits in four.
 #![tactic(auto)]
 
-ghost use Rattle.std.specs.Prelude.{◌≡◌, not, ◌&&◌, ◌||◌, ℕ, ◌<◌, eqb, length};
+ghost use Rattle.std.specs.Prelude.{◌≡◌, not, ◌&&◌, ◌||◌, ℕ, ◌<◌, eqb, length, unwrap_or};
 ghost use Rattle.bits.specs.Bits.{bit, marked, within, LowestBit, LowestClear, Added, Removed, LeastMember};
-
-// No number: what `least` answers for a set that has none.
-pub const NONE: u16 = 256;
 
 // Whether bit k of x is set.
 pub fn holds(x: u64, k: u8) -> bool
@@ -97,17 +94,14 @@ pub fn remove(set: &mut [u64; 4], i: u8)
     set[q] = without_bit(set[q], i % 64);
 }
 
-// The least number in the set, or 256 if there is none.
-pub fn least(set: &[u64; 4]) -> u16
-    ensures { LeastMember set.now result }
+// The least number in the set.
+pub fn least(set: &[u64; 4]) -> Option<u8>
+    ensures { LeastMember set.now (unwrap_or result 256) }
 {
-    let mut q = 0;
-    while q < 4 {
-        let word = set[q];
-        if word != 0 {
-            return 64 * (q as u16) + (lowest(word) as u16);
+    for (q, word) in set.iter().enumerate() {
+        if *word != 0 {
+            return Some(64 * (q as u8) + lowest(*word));
         }
-        q += 1;
     }
-    NONE
+    None
 }

@@ -54,10 +54,8 @@ fn generator(steps: u64, seed: u64) {
 
 fn number_after(steps: u64, seed: u64) -> u32 {
     let mut last = (seed % 4294967296) as u32;
-    let mut left = steps;
-    while 0 < left {
+    for _ in 0..steps {
         last = draw::next(last);
-        left -= 1;
     }
     last
 }

@@ -33,14 +33,8 @@ const JOURNEYS: u64 = 0x6a6f75726e657973;
 pub(crate) fn lend(word: u64, line: &[u8], file: &[u8], buffer: &mut [u8]) -> bool {
     let mut list = [0u8; 320];
     let n = bytes(line, 3, &mut list, 0);
-    let room = least(least(number(line, 1), 264), buffer.len() as u64) as usize;
+    let room = number(line, 1).min(264).min(buffer.len() as u64) as usize;
     lend_first(word, line, file, front(&list, n), buffer, room)
-}
-
-fn least(a: u64, b: u64) -> u64
-    ensures { (result ≤ a) × (result ≤ b) }
-{
-    if a < b { a } else { b }
 }
 
 // What the call leaves is printed with the 8 bytes behind.

@@ -18,7 +18,7 @@ mod words;
 
 ghost use Rattle.std.specs.Prelude.{◌≡◌, length};
 
-use words::{bytes, find, front, number, word};
+use words::{bytes, front, number, word};
 
 const STDIN_FILENO: i32 = 0;
 
@@ -52,10 +52,8 @@ fn lines(text: &[u8]) {
     let mut file = [0u8; ROOM];
     let mut n = 0usize;
     let mut buffer = [170u8; 272];
-    let mut at = 0;
-    while at < text.len() {
-        let end = find(text, at, text.len(), b'\n');
-        let line = &text[at..end];
+    for ended in text.split_inclusive(|byte| *byte == b'\n') {
+        let line = ended.strip_suffix(b"\n").unwrap_or(ended);
         match word(line) {
             CASE => {
                 show::line(line);
@@ -69,7 +67,6 @@ fn lines(text: &[u8]) {
             }
             _ => call(line, &file, n, &mut buffer),
         }
-        at = end + 1;
     }
 }
 
@@ -81,10 +78,8 @@ fn edit(line: &[u8], file: &mut [u8; ROOM]) -> usize {
 // Answers how long the file then is.
 fn repeat(file: &mut [u8; ROOM], n: usize, back: u64, many: u64) -> usize {
     let mut n = n;
-    let mut left = many % 65536;
-    while 0 < left {
+    for _ in 0..many % 65536 {
         n = words::again(file, n, back as usize);
-        left -= 1;
     }
     n
 }

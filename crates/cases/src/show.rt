@@ -1,5 +1,4 @@
 // Words, numbers, bytes and answers on standard output.
-use crate::words::wide;
 use answer::Answer;
 
 const STDOUT_FILENO: i32 = 1;
@@ -27,10 +26,8 @@ pub(crate) fn text_and_number(words: &[u8], n: u64) {
 pub(crate) fn text_and_bytes(words: &[u8], all: &[u8]) {
     text(words);
     text(b" ");
-    let mut i = 0;
-    while i < all.len() {
-        io::print_hex(STDOUT_FILENO, wide(all[i]), 2);
-        i += 1;
+    for byte in all {
+        io::print_hex(STDOUT_FILENO, u64::from(*byte), 2);
     }
 }
 

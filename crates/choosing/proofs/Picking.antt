@@ -6,8 +6,7 @@ use mathlib.Core.List.{List}
 use Prim.Native.Nat.{ℕ, ◌+◌, ◌*◌, ◌≤◌, ◌<◌}
 use lib.Dec.{eqb}
 use lib.ListN.{length, get_or, set}
-use Rattle.choosing.specs.declared.Choice.{Choice}
-use Rattle.choosing.specs.declared.Choice.TheVariants.{Action, Nothing}
+use Rattle.std.specs.Prelude.{Option, Some, None}
 use Rattle.bits.specs.Bits.{bit, LeastMember, Removed}
 use Rattle.opening.specs.Conditions.{Readable, FirstOpen}
 use Rattle.choosing.specs.Choosing.{Noted, Chosen, Guarded}
@@ -51,14 +50,14 @@ module _ {file vars places manys state room held₀ opened₀ waiting₀ held op
 
   module _ {r : ℕ} (least : LeastMember opened r) where
     -- what the choice is to be
-    abbrev Picks : Choice → Type 0
+    abbrev Picks : Option ℕ → Type 0
     Picks c =
         (ranks steps wants : List ℕ) (n : ℕ) → Guarded file vars places manys steps state ranks room n held₀
         → OpenRight ranks file places manys steps wants state opened₀ waiting₀ n
         → Chosen ranks n file places manys steps wants state c × OpenRight ranks file places manys steps wants state opened waiting n
         × Noted file places manys steps state held₀ held
 
-    pub picks_none : 256 ≤ r → Picks Nothing
+    pub picks_none : 256 ≤ r → Picks None
     picks_none none ranks steps wants n guarded right =
         let (right', noted) = picking.keeps ranks steps wants n guarded right in
         (none_ready (guarded_noted guarded noted) right' least none, right', noted)
@@ -88,7 +87,7 @@ module _ {file vars places manys state room held₀ opened₀ waiting₀ held op
           (guarded.right v free.below i free.next).0
 
       module _ {k : ℕ} (first : FirstOpen file (get_or places i 0) (get_or manys i 0) state (get_or held v 0) k) where
-        pub picks_ready : get_or manys i 0 ≤ k → Picks (Action i)
+        pub picks_ready : get_or manys i 0 ≤ k → Picks (Some i)
         picks_ready all ranks steps wants n guarded₀ right₀ =
             let (right, noted) = picking.keeps ranks steps wants n guarded₀ right₀ in
             let guarded = guarded_noted guarded₀ noted in

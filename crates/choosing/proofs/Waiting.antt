@@ -11,7 +11,7 @@ use lib.Dec.{eqb}
 use lib.ListN.{get_or, set, length-set}
 use lib.Seq.{get_or-set_same, get_or-set_other}
 use borrow.Author.Tests.{eq-eqb, ne_eqb}
-use Rattle.choosing.specs.declared.Choice.TheVariants.{Action, Nothing}
+use Rattle.std.specs.Prelude.{Some, None}
 use Rattle.bits.specs.Bits.{bit, within, LeastMember, Removed}
 use Rattle.bits.proofs.Members.{not_both, removed_gone, removed_keeps, removed_only}
 use Rattle.opening.specs.Conditions.{HoldUpTo, FirstOpen}
@@ -41,7 +41,7 @@ module _ {file vars places manys steps state ranks room : List ℕ} {n : ℕ} {h
         go (yes l) = absurd (not_both o (least.none_below s l))
         go (no l) = omega arith
 
-    pub none_ready : 256 ≤ r → Chosen ranks n file places manys steps wants state Nothing
+    pub none_ready : 256 ≤ r → Chosen ranks n file places manys steps wants state None
     none_ready none v j h looks = omega (arith, least_first (get_or ranks j 0) (ready_open h looks), rank_below guarded (looks_free h looks))
 
     module _ (some : r < 256) where
@@ -70,7 +70,7 @@ module _ {file vars places manys steps state ranks room : List ℕ} {n : ℕ} {h
 
       module _ {k from : ℕ} (first : FirstOpen file (get_or places i 0) (get_or manys i 0) state from k) where
         pub front_chosen :
-            HoldUpTo file (get_or places i 0) state from → get_or manys i 0 ≤ k → Chosen ranks n file places manys steps wants state (Action i)
+            HoldUpTo file (get_or places i 0) state from → get_or manys i 0 ≤ k → Chosen ranks n file places manys steps wants state (Some i)
         front_chosen hold all = (
           (
             v,

@@ -1,11 +1,9 @@
 -- A variable's next action, as the tables tell it, and the one to take.
 -- Assumes nothing.
-use Rattle.std.specs.Prelude.{ℕ, ◌+◌, ◌≤◌, ◌<◌, ◌≡◌, List, length, get_or}
+use Rattle.std.specs.Prelude.{ℕ, ◌+◌, ◌≤◌, ◌<◌, ◌≡◌, List, length, get_or, Option, Some, None}
 use Rattle.ranks.specs.Ranks.{Inverse}
 use Rattle.opening.specs.Conditions.{Readable, HoldUpTo}
 use Rattle.opening.specs.Opening.{step_of, Unwanted}
-use Rattle.choosing.specs.declared.Choice.{Choice}
-use Rattle.choosing.specs.declared.Choice.TheVariants.{Action, Nothing}
 
 -- i is the next action of v, nothing wants the value that it leaves, and all its conditions hold
 pub record LooksReady (file places manys steps wants state : List ℕ) (v i : ℕ) : Type 0 where
@@ -32,11 +30,11 @@ pub record Noted (file places manys steps state held held' : List ℕ) : Type 0 
   pub right : (v : ℕ) → HeldRight file places manys steps state held v → HeldRight file places manys steps state held' v
 
 -- one of least rank among those that look ready, or none looks so
-abbrev pub Chosen : List ℕ → ℕ → (file places manys steps wants state : List ℕ) → Choice → Type 0
-Chosen ranks n file places manys steps wants state (Action i) =
+abbrev pub Chosen : List ℕ → ℕ → (file places manys steps wants state : List ℕ) → Option ℕ → Type 0
+Chosen ranks n file places manys steps wants state (Some i) =
     ((v : ℕ) × ((v < n) × LooksReady file places manys steps wants state v i))
     × ((v j : ℕ) → v < n → LooksReady file places manys steps wants state v j → get_or ranks i 0 ≤ get_or ranks j 0)
-Chosen ranks n file places manys steps wants state Nothing = (v j : ℕ) → v < n → LooksReady file places manys steps wants state v j → ⊥
+Chosen ranks n file places manys steps wants state None = (v j : ℕ) → v < n → LooksReady file places manys steps wants state v j → ⊥
 
 -- what keeps a look at each of the first n variables in range and right
 pub record Guarded (file vars places manys steps state ranks room : List ℕ) (n : ℕ) (held : List ℕ) : Type 0 where

@@ -6,10 +6,16 @@ use mathlib.Core.List.{List}
 use Prim.Native.Nat.{ℕ, ◌<◌}
 use native.Mathlib.Omega.{arith}
 use native.Mathlib.Decide.{ℕ_discrete}
+use Rattle.std.specs.Prelude.{Option, Some, None, is_some, unwrap_or, true}
 use Rattle.study.specs.Study.{Study}
 use Rattle.explained.specs.Rings.{Stuck}
 use Rattle.ringing.specs.Stranded.{LeftAre}
 use Rattle.circling.specs.Lowest.{LowerOf, LowestBelow}
+
+-- a number below 256 is one that was found
+pub some_below : (o : Option ℕ) → unwrap_or o 256 < 256 → is_some o ≡ true
+some_below (Some x) h = refl
+some_below None h = absurd (omega (arith, h))
 
 module _ {t : Study} where
   pub lowest_of_none : {P : ℕ → Type 0} {from : ℕ} → ((i : ℕ) → Stuck t i → P i → ⊥) → LowestBelow t P from from

@@ -2,61 +2,59 @@
 // repeats.
 #![tactic(auto)]
 
-ghost use Rattle.std.specs.Prelude.{◌≡◌, List, ℕ, ◌+◌, ◌≤◌, ◌<◌, length, take, get_or};
+ghost use Rattle.std.specs.Prelude.{◌≡◌, List, ℕ, ◌+◌, ◌≤◌, ◌<◌, length, take, get_or, unwrap_or};
 ghost use Rattle.study.specs.Study.{Study};
 ghost use Rattle.walks.specs.Walks.{conditions_of, var_of, post_of, Wants};
 ghost use Rattle.tables.specs.Rows.{start_column};
-ghost use Rattle.explained.specs.Facts.{Fact, rows_of};
+ghost use Rattle.explained.specs.Facts.{Fact as Facts·Fact, rows_of};
 ghost use Rattle.explained.specs.Rings.{Stuck, WaitsOn, Circled};
 ghost use Rattle.ringing.specs.Stranded.{Stranded, Opened, Rowed};
 ghost use Rattle.circling.specs.Lowest.{LowerOf, LowestBelow};
 ghost use Rattle.ringing.specs.Path.{Pathed, Next, Closed};
 
+use facts::Fact;
 use ringing::Circle;
 use tables::Act;
 
 // i, if it is left and lower.
-fn lower(low: u16, i: u8, left: &[u64; 4]) -> u16
-    ensures { LowerOf left.now low i result }
+fn lower(low: Option<u8>, i: u8, left: &[u64; 4]) -> Option<u8>
+    ensures { LowerOf left.now (unwrap_or low 256) i (unwrap_or result 256) }
 {
-    if bits::contains(left, i) {
-        if (i as u16) < low {
-            return i as u16;
-        }
+    if !bits::contains(left, i) {
+        return low;
     }
-    low
+    match low {
+        Some(least) if least <= i => low,
+        _ => Some(i),
+    }
 }
 
 // Of those left that set what the conditions want, the lowest, if it is below `from`.
 fn lowest_setter(
     file: &[u8],
     act: Act,
-    from: u16,
+    from: Option<u8>,
     vars: &[[u8; 3]; 32],
     setters: &[u8; 512],
     left: &[u64; 4],
-) -> u16
+) -> Option<u8>
     requires { (t : Study) × (j : ℕ) × (sets : List (List ℕ))
         × Stranded file.now (start_column vars.now) setters.now sets left.now t × Opened file.now act t j × Stuck t j }
     ensures { (t : Study) (j : ℕ) (sets : List (List ℕ))
         → Stranded file.now (start_column vars.now) setters.now sets left.now t
         → Opened file.now act t j
         → Stuck t j
-        → LowestBelow t (λ i. Wants (conditions_of t j) (var_of t i) (post_of t i)) from result }
+        → LowestBelow t (λ i. Wants (conditions_of t j) (var_of t i) (post_of t i)) (unwrap_or from 256) (unwrap_or result 256) }
 {
-    let many = act.many;
     let mut low = from;
-    let mut at = act.place;
-    let mut k = 0;
-    while k < many {
+    for k in 0..act.many {
+        let at = act.place + 3 * k as usize;
         let q = file[at + 2];
         let v = tables::wide(file[at + 1]);
         let var = tables::variable_at(vars, v);
         if q != var.start {
             low = lower(low, setters[16 * v + tables::wide(q)], left);
         }
-        at += 3;
-        k += 1;
     }
     low
 }
@@ -69,7 +67,7 @@ fn lowest_before(
     setters: &[u8; 512],
     wanters: &[[u64; 4]; 512],
     left: &[u64; 4],
-) -> u16
+) -> u8
     requires { (t : Study) × (j : ℕ)
         × Stranded file.now (start_column vars.now) setters.now wanters.now left.now t × Opened file.now act t j × Stuck t j }
     ensures upper_bound { result < 256 }
@@ -87,7 +85,7 @@ fn lowest_before(
     if act.pre != var.start {
         low = lower(low, setters[j], left);
     }
-    lowest_setter(file, act, low, vars, setters, left)
+    lowest_setter(file, act, low, vars, setters, left).unwrap()
 }
 
 // An action, and its entry on the path.
@@ -178,7 +176,7 @@ pub fn ring(
     setters: &[u8; 512],
     wanters: &[[u64; 4]; 512],
     left: &[u64; 4],
-    facts: &mut [[u8; 5]; 288],
+    facts: &mut [Fact; 288],
 ) -> usize
     requires { (length facts.old ≡ 288)
         × ((t : Study) × (i : ℕ) × Stranded file.now (start_column vars.now) setters.now wanters.now left.now t × Rowed file.now acts.now t × Stuck t i) }
@@ -187,11 +185,11 @@ pub fn ring(
         → Stranded file.now (start_column vars.now) setters.now wanters.now left.now t
         → Rowed file.now acts.now t
         → Stuck t i
-        → (list : List Fact) × (Circled t list × (take result facts.new ≡ rows_of list)) }
+        → (list : List Facts·Fact) × (Circled t list × (take result facts.new ≡ rows_of list)) }
 {
     let mut seen = [0u16; 256];
     let mut path = [0u8; 256];
-    let first = bits::least(left) as usize;
+    let first = bits::least(left).unwrap() as usize;
     let spot = Spot {
         action: first,
         entry: 0,

@@ -1,24 +1,23 @@
 -- What members lack of what is wanted before them, one member after another, and the lowest two.
 -- Assumes nothing.
 use mathlib.Core.Path.{◌≡◌, refl, sym, ◌∙◌}
-use mathlib.Core.Logic.{◌⊎◌, inl, inr}
+use mathlib.Core.Logic.{inl, inr}
 use mathlib.Core.Bool.{Bool, true, false, false≢true, true≢false, not, ◌&&◌, ◌||◌, or-true}
 use mathlib.Core.List.{List}
-use Prim.Native.Nat.{ℕ, ◌<◌}
-use native.Mathlib.Decide.{ℕ_discrete, dec_lt}
-use native.Mathlib.Omega.{arith}
+use Prim.Native.Nat.{ℕ}
+use native.Mathlib.Decide.{ℕ_discrete}
 use lib.Dec.{eqb}
 use lib.ListN.{get_or}
+use Rattle.std.specs.Prelude.{Some, None}
 use Rattle.plain.proofs.Tests.{either}
 use Rattle.bits.specs.Bits.{bit, LowestBit}
 use Rattle.bits.proofs.Words.{bit_zero}
 use Rattle.bits.proofs.Members.{not_both}
-use Rattle.bits.proofs.Changed.{out_stays, out_only, common_both, common_none}
+use Rattle.bits.proofs.Changed.{out_stays, out_only, common_both}
 use Rattle.hanging.specs.Hanging.{InWord}
 use Rattle.tying.specs.Tying.{Low, Tied}
 use Rattle.charts.specs.Faults.{LowerTwo}
 use Rattle.lacking.specs.Lacking.{LacksOf, nothing, two}
-use Rattle.lacking.specs.declared.Lack.TheVariants.{Nothing, Two}
 use Rattle.comparing.specs.Comparing.{Wanted, Lacking, LacksAny, LowestSecond}
 
 -- ---- what one word has and another has not
@@ -124,13 +123,13 @@ module _ (members : ℕ) (words ties : List ℕ) where
         go true e = (low y w.1, e)
         go false e = absurd (not_both (common x ∙ rw (lacks.there x y (w.1, w.2, λ g. not_both g e), w.0)) none)
 
-    pub nothing_lacks : any ≡ 0 → LacksOf (Wanted members words) (Tied ties) Nothing
+    pub nothing_lacks : any ≡ 0 → LacksOf (Wanted members words) (Tied ties) None
     nothing_lacks e = nothing (λ x y w. lacked x y w (rw e (bit_zero x)))
 
     pub some_lacks : (x : ℕ) → InWord any x → (y : ℕ) × Lacking members words ties x y
     some_lacks x h = lacks.only x (common_both all members any common x h).0
 
-    pub two_lack : {x y : ℕ} → LowestBit 64 any x → LowestSecond members words ties x y → LacksOf (Wanted members words) (Tied ties) (Two x y)
+    pub two_lack : {x y : ℕ} → LowestBit 64 any x → LowestSecond members words ties x y → LacksOf (Wanted members words) (Tied ties) (Some (x, y))
     two_lack {x} {y} least second =
         let (m, w, n) = second.lacks in
         two ((common_both all members any common x least.there).1, m, w) (λ t. n t.1) lower

@@ -1,13 +1,9 @@
 -- Sets of actions as words: a list's actions, pairs as ties, what is wanted before each member and what of it is not tied so.
 -- Assumes nothing.
-use Rattle.std.specs.Prelude.{ℕ, ◌<◌, ◌↔◌, List, length, get_or}
+use Rattle.std.specs.Prelude.{ℕ, ◌<◌, ◌↔◌, List, get_or}
 use Rattle.orders.specs.Orders.{In}
 use Rattle.hanging.specs.Hanging.{InWord}
 use Rattle.tying.specs.Tying.{Tied}
-
--- each entry of the list is a number of a word
-abbrev pub Entries : List ℕ → Type 0
-Entries list = (k : ℕ) → k < length list → get_or list k 0 < 64
 
 -- the members are just the numbers that the list has
 abbrev pub ListedIn : List ℕ → ℕ → Type 0

@@ -1,98 +1,41 @@
-// A chart of at most 64 actions, whose sets are words: what is amiss in its list, its pairs as ties, and the lowest order that they lack.
+// A chart of at most 64 actions, whose sets are words: its pairs as ties, and the lowest order that they lack.
 #![tactic(auto)]
 
-ghost use Rattle.std.specs.Prelude.{◌≡◌, ◌↔◌, false, List, ℕ, ◌<◌, length};
-ghost use Rattle.bits.specs.Bits.{bit};
-ghost use Rattle.hanging.specs.Hanging.{InWord};
+mod words;
+
+ghost use Rattle.std.specs.Prelude.{◌≡◌, List, ℕ, ◌<◌, length, IfSome, unwrap_or};
 ghost use Rattle.tying.specs.Tying.{Low, Tied};
-ghost use Rattle.study.specs.Study.{Study};
-ghost use Rattle.walks.specs.Walks.{OnAWalk};
-ghost use Rattle.charts.specs.Charts.{pair, pairs_of};
-ghost use Rattle.listing.specs.Listing.{FindsAmiss, TellsStray, LinksTo};
+ghost use Rattle.charts.specs.Charts.{pairs_of};
+ghost use Rattle.listing.specs.Listing.{LinksTo};
 ghost use Rattle.lacking.specs.Lacking.{LacksOf};
-ghost use Rattle.comparing.specs.Comparing.{Entries, ListedIn, Untied, Wanted, Lacking, LacksAny, LowestSecond};
+ghost use Rattle.comparing.specs.Comparing.{ListedIn, Untied, Wanted, Lacking, LacksAny, LowestSecond};
 
-use lacking::Lack;
+pub use words::Word;
 
-// So many numbers a word has.
-const FEW: u8 = 64;
-
-// The lowest action that stands twice in the list, or is just listed or just a member; 256 if there is none.
-pub fn lowest_amiss(list: &[u8], members: u64) -> u16
-    requires { Entries list.now × Low members }
-    ensures { (t : Study) → ((i : ℕ) → InWord members i ↔ OnAWalk t i) → FindsAmiss t list.now result }
-{
-    let mut listed = 0u64;
-    let mut twice = 0u64;
-    let mut k = 0;
-    while k < list.len() {
-        let i = list[k];
-        if bits::holds(listed, i) {
-            twice = bits::with_bit(twice, i);
-        }
-        listed = bits::with_bit(listed, i);
-        k += 1;
-    }
-    let unlike = bits::joined(
-        linking::without(listed, members),
-        linking::without(members, listed),
-    );
-    let amiss = bits::joined(twice, unlike);
-    if amiss == 0 {
-        return bits::NONE;
-    }
-    bits::lowest(amiss) as u16
-}
-
-// Whether a number, which may be too large, is a member.
-fn has(members: u64, x: u8) -> bool
-    requires { Low members }
-    ensures { result ≡ bit members x }
-{
-    if FEW <= x {
-        return false;
-    }
-    bits::holds(members, x)
-}
-
-// Whether one of two actions is not a member, or the two are one.
-fn stray(x: u8, y: u8, members: u64) -> bool
-    requires { Low members }
-    ensures x_bound { result ≡ false → (x < 64) × (y < 64) }
-    ensures by_index { (list : List ℕ) → ListedIn list members → TellsStray list (pair x y) result }
-{
-    if x == y {
-        return true;
-    }
-    if !has(members, x) {
-        return true;
-    }
-    !has(members, y)
-}
-
-// The index of the first pair that names an action that is not a member, or an action and itself; or the number of pairs,
-// and each first is then tied before its second. A last byte that stands alone is such a pair.
-pub fn tie_all(pairs: &[u8], members: u64, ties: &mut [u64; 64]) -> usize
+// The index of the first pair that names an action that is not a member, or an action and itself; if there is none, each first is
+// tied before its second. A last byte that stands alone is such a pair.
+pub fn tie_all(pairs: &[u8], members: u64, ties: &mut [u64; 64]) -> Option<usize>
     requires { (length ties.old ≡ 64) × Low members × Untied ties.old }
     ensures ties_len { length ties.new ≡ 64 }
+    ensures there { IfSome result (λ k. k < length (pairs_of pairs.now)) }
     ensures by_index { (list : List ℕ)
         → ListedIn list members
-        → LinksTo list (pairs_of pairs.now) (Tied ties.new) result }
+        → LinksTo list (pairs_of pairs.now) (Tied ties.new) (unwrap_or result (length (pairs_of pairs.now))) }
 {
-    let mut at = 0;
-    let mut k = 0;
-    while 1 < pairs.len() - at {
-        let x = pairs[at];
-        let y = pairs[at + 1];
-        if stray(x, y, members) {
-            return k;
+    let whole = pairs.len() / 2;
+    for k in 0..whole {
+        let x = pairs[2 * k];
+        let y = pairs[2 * k + 1];
+        if listing::stray(x, y, &Word(members)) {
+            return Some(k);
         }
         let j = y as usize;
         ties[j] = bits::with_bit(ties[j], x);
-        at += 2;
-        k += 1;
     }
-    k
+    if pairs.len() % 2 == 1 {
+        return Some(whole);
+    }
+    None
 }
 
 // What is wanted before some member and is not tied before it.
@@ -128,15 +71,15 @@ fn lowest_second(x: u8, members: u64, words: &[u64; 64], ties: &[u64; 64]) -> u8
 }
 
 // The words have what is wanted before each member: all that are members are tied so; or the lowest two that are not.
-pub fn lowest(members: u64, words: &[u64; 64], ties: &[u64; 64]) -> Lack
+pub fn lowest(members: u64, words: &[u64; 64], ties: &[u64; 64]) -> Option<(u8, u8)>
     requires { Low members }
     ensures { LacksOf (Wanted members words.now) (Tied ties.now) result }
 {
     let any = bits::common(lacking_any(members, words, ties), members);
     if any == 0 {
-        return Lack::Nothing;
+        return None;
     }
     let first = bits::lowest(any);
     let second = lowest_second(first, members, words, ties);
-    Lack::Two { first, second }
+    Some((first, second))
 }

@@ -8,8 +8,6 @@ ghost use Rattle.planning.specs.Planning.{PlanAllows};
 ghost use Rattle.journeys.specs.Allowed.{JourneysAllows};
 
 use answer::Answer;
-use ranking::Tested;
-use tables::Loaded;
 
 // Plans as `planner::plan` does, and leaves the plan in the room from 256 on. If both calls shared that, it would stand behind
 // each as a function of its own, and planning would take more stack than it may. Where loading refuses the file it says nothing of
@@ -21,20 +19,14 @@ fn plan_aside(file: &[u8], crew: u64, ranks: &[u8], room: &mut [u8; 512]) -> Ans
 {
     let mut acts = [[0u8; 6]; 256];
     let mut vars = [[0u8; 3]; 32];
-    let found = mustering::load_for(file, crew, &mut acts, &mut vars, room);
-    let Loaded::Study {
-        vars: n,
-        actions,
-        seed: _,
-    } = found
-    else {
-        return tables::refused(found);
+    let loaded = match mustering::load_for(file, crew, &mut acts, &mut vars, room) {
+        Ok(loaded) => loaded,
+        Err(refusal) => return Answer::from(refusal),
     };
-    let tested = ranking::test(ranks, actions);
-    let Tested::Fine = tested else {
-        return handing::unranked(tested, ranks.len());
-    };
-    stages::plan_in_room(file, ranks, n, actions, &acts, &vars, room)
+    if let Err(fault) = ranking::test(ranks, loaded.actions) {
+        return handing::unranked(fault, ranks.len());
+    }
+    stages::plan_in_room(file, ranks, loaded.vars, loaded.actions, &acts, &vars, room)
 }
 
 // Answer 0 gives the number of journeys and writes them, three bytes each; a refusal alters nothing.

@@ -97,7 +97,7 @@ fn refusal(step: Step) -> Judged
 }
 
 // The end, which may come behind a seed and decides 7 and 21.
-fn judge_end(p: Progress, repeat: usize) -> Judged
+fn judge_end(p: Progress, repeat: Option<usize>) -> Judged
     requires { p.at ≤ 30000 }
     ensures { (l : Lists) (counts : List ℕ)
         → Drafted (file_of l) counts p (end ∷ [])
@@ -110,11 +110,8 @@ fn judge_end(p: Progress, repeat: usize) -> Judged
             place: p.at,
         };
     }
-    if repeat != 0 {
-        return Judged::Refused {
-            number: 7,
-            place: repeat,
-        };
+    if let Some(place) = repeat {
+        return Judged::Refused { number: 7, place };
     }
     let unused = tables::wide(bits::lowest_clear(p.used));
     if unused < p.vars {

@@ -2,12 +2,11 @@
 #![tactic(auto)]
 
 ghost use Rattle.std.specs.Prelude.{◌≡◌, ◌++◌, ◌-◌, ◌<◌, ◌≤◌, length, drop};
-ghost use Rattle.answer.specs.Answers.{refusal};
-ghost use Rattle.ranks.specs.Ranks.{rising, exchanged};
+ghost use Rattle.ranks.specs.Ranks.{rising};
 ghost use Rattle.draw.specs.Draw.{number_after, shuffled, DrawAllows};
 ghost use Rattle.draw.specs.Draw.{next as Draw·next};
 
-use answer::Answer;
+use answer::{Answer, Rule};
 
 const LARGEST_SEED: u64 = 2147483646;
 
@@ -17,7 +16,7 @@ const MOST_ACTIONS: u64 = 256;
 pub fn next(last: u32) -> u32
     ensures { result ≡ Draw·next last }
 {
-    let product = 16807 * last as u64;
+    let product = 16807 * u64::from(last);
     let sum = (product % 2147483648 + product / 2147483648) as u32;
     if sum < 2147483647 {
         sum
@@ -31,20 +30,9 @@ fn fill_rising(ranks: &mut [u8], count: usize)
     requires { (count ≤ 256) × (count ≤ length ranks.old) }
     ensures { ranks.new ≡ rising count ++ drop count ranks.old }
 {
-    let mut i = 0;
-    while i < count {
-        ranks[i] = i as u8;
-        i += 1;
+    for (i, rank) in ranks[..count].iter_mut().enumerate() {
+        *rank = i as u8;
     }
-}
-
-fn exchange(ranks: &mut [u8], i: usize, j: usize)
-    requires { (i < length ranks.old) × (j < length ranks.old) }
-    ensures { ranks.new ≡ exchanged ranks.old i j }
-{
-    let at_i = ranks[i];
-    ranks[i] = ranks[j];
-    ranks[j] = at_i;
 }
 
 // Shuffles the first `count` entries and returns the generator's last number.
@@ -54,24 +42,12 @@ fn shuffle(ranks: &mut [u8], count: usize, seed: u32) -> u32
         × (ranks.new ≡ shuffled (count - 1) seed ranks.old) }
 {
     let mut last = seed;
-    let mut left = count as u32;
-    while 1 < left {
+    for i in (1..count).rev() {
         last = next(last);
-        let j = last % left;
-        left -= 1;
-        exchange(ranks, left as usize, j as usize);
+        let partner = last % (i as u32 + 1);
+        ranks.swap(i, partner as usize);
     }
     last
-}
-
-fn refuse(number: u64, first: u64) -> Answer
-    ensures { result ≡ refusal number first }
-{
-    Answer {
-        number,
-        first,
-        second: 0,
-    }
 }
 
 // Draws a rank list for `count` actions into the first bytes of `ranks`.
@@ -79,23 +55,19 @@ pub fn draw(seed: u64, count: u64, ranks: &mut [u8]) -> Answer
     ensures { DrawAllows seed count ranks.old result ranks.new }
 {
     if seed < 1 {
-        return refuse(18, seed);
+        return Rule::NoSeed.refusal(seed);
     }
     if LARGEST_SEED < seed {
-        return refuse(18, seed);
+        return Rule::NoSeed.refusal(seed);
     }
     if MOST_ACTIONS < count {
-        return refuse(19, count);
+        return Rule::WrongCount.refusal(count);
     }
     let entries = count as usize;
     if ranks.len() < entries {
-        return refuse(13, count);
+        return Rule::NoRoom.refusal(count);
     }
     fill_rising(ranks, entries);
     let last = shuffle(ranks, entries, seed as u32);
-    Answer {
-        number: 0,
-        first: last as u64,
-        second: 0,
-    }
+    Answer::done(u64::from(last), 0)
 }

@@ -7,6 +7,7 @@ use Prim.Native.Nat.{ℕ, ◌+◌, ◌≤◌, ◌<◌}
 use native.Mathlib.Omega.{arith}
 use lib.ListN.{length, get_or}
 use borrow.Author.Tests.{lt-ltb, le-ltb}
+use Rattle.std.specs.Prelude.{Option as Repeat, Some, None}
 use Rattle.study.specs.Uses.{first_unused}
 use Rattle.study.specs.Reading.{refused, Draft, Verdict, settled, ended, roster_of, first_repeat}
 use Rattle.tables.specs.Tables.{Tables, tables, action_tables}
@@ -16,16 +17,17 @@ use Rattle.setters.specs.Filling.{Filled}
 use Rattle.setters.proofs.Naming.{beside}
 use Rattle.standing.specs.Reads.{Stands, Meets}
 
-module _ {file : List ℕ} {p : Progress} {t : Tables} {begins : List ℕ} {d : Draft} (stands : Stands file p t begins d) {setters : List ℕ} {r : ℕ} (filled : Filled d.study.situation p.actions d.study.actions setters r) (next : ℕ) where
+module _ {file : List ℕ} {p : Progress} {t : Tables} {begins : List ℕ} {d : Draft} (stands : Stands file p t begins d) {setters : List ℕ} {r : Repeat ℕ} (filled : Filled d.study.situation p.actions d.study.actions setters r) (next : ℕ) where
   abbrev says_so : Option ℕ → Verdict
   says_so repeat = settled (ended file next d repeat)
 
-  pub ends_with_7 : r < p.actions → {place : ℕ} → place + 4 ≡ get_or t.acts.places r 0 → says_so (first_repeat d.study) ≡ settled (refused 7 place)
-  ends_with_7 less {place} e =
-      let here : get_or d.places r 0 ≡ place = omega (arith, stands.places r less) in
-      rw (filled.repeats less, here)
+  pub ends_with_7 :
+      {k : ℕ} → r ≡ Some k → k < p.actions → {place : ℕ} → place + 4 ≡ get_or t.acts.places k 0 → says_so (first_repeat d.study) ≡ settled (refused 7 place)
+  ends_with_7 {k} is less {place} e =
+      let here : get_or d.places k 0 ≡ place = omega (arith, stands.places k less) in
+      rw (filled.repeats k is, here)
 
-  module _ (all : r ≡ p.actions) where
+  module _ (all : r ≡ None) where
     pub ends_with_21 : {v : ℕ} → first_unused d.study ≡ some v → says_so (first_repeat d.study) ≡ settled (refused 21 v)
     ends_with_21 unused = rw (filled.none_repeats all, unused)
 

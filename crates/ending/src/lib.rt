@@ -61,8 +61,7 @@ pub fn on_end(
         → Stands file p (tables counts (seen setters.old acts.now) starts goals) begins d
         → Meets file (settled (ended file next d (first_repeat d.study))) (tables counts (seen setters.new acts.now) starts goals) begins result }
 {
-    let repeat = setters::fill(p.actions, acts, setters);
-    if repeat < p.actions {
+    if let Some(repeat) = setters::fill(p.actions, acts, setters) {
         let act = tables::action_at(acts, repeat);
         return Step::Refused {
             number: 7,

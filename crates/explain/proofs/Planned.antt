@@ -3,7 +3,7 @@
 use Prim.Native.Nat.{ℕ, ◌≤◌}
 use native.Mathlib.Omega.{arith}
 use mathlib.Core.Path.{◌≡◌, refl, ap}
-use mathlib.Core.List.{List, ◌++◌}
+use mathlib.Core.List.{List}
 use lib.ListN.{length, take, drop, replicate}
 use lib.Seq.{take-append_seam}
 use Rattle.answer.specs.declared.Answer.{Answer}
@@ -12,7 +12,7 @@ use Rattle.study.specs.Reading.{Said, says, refused, reading_for}
 use Rattle.study.proofs.Refusals.{NumberedIfHeard, heard_some, refusals_heard}
 use Rattle.plans.specs.Plans.{StraightPlan}
 use Rattle.planning.specs.Seeded.{PlansSeeded}
-use Rattle.planning.proofs.Ways.{Barred, barred-number, short, fits, Way, at_fault, barred, planned, way_of}
+use Rattle.planning.proofs.Ways.{barred-number, short, fits, Way, at_fault, barred, planned, way_of}
 
 pub record Straight (said : Said Study) (r : Answer) (buffer : List ℕ) : Type 0 where
   pub study : Study

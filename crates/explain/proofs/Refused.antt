@@ -9,7 +9,7 @@ use lib.ListN.{length, replicate}
 use Rattle.answer.specs.Answers.{three}
 use Rattle.answer.specs.declared.Answer.{Answer}
 use Rattle.ranking.specs.Ranking.{tested}
-use Rattle.ranking.specs.declared.Tested.TheVariants.{Fine}
+use Rattle.std.specs.Prelude.{Ok}
 use Rattle.study.specs.Study.{Study}
 use Rattle.study.specs.Reading.{Said, says, refused, reading_for}
 use Rattle.lawful.specs.Lawful.{Lawful}
@@ -40,7 +40,7 @@ bars (on_ring {x = x} walks met c n) = inr (inr (refl, (walks, (met, (refl, (x, 
 
 -- with a rank list and room for every plan
 way_bars :
-    {t : Study} {ranks before after : List ℕ} {r : Answer} → Lawful t → tested ranks (length t.actions) ≡ Fine → 256 ≤ length before
+    {t : Study} {ranks before after : List ℕ} {r : Answer} → Lawful t → tested ranks (length t.actions) ≡ Ok tt → 256 ≤ length before
     → Way t ranks before r after → r.number ≢ 0 → Bars t r
 way_bars lawful fine room (at_fault f) some = absurd (rw fine at f)
 way_bars lawful fine room (barred _ b) some = bars b

@@ -9,13 +9,13 @@ ghost use Rattle.study.specs.Study.{Study};
 ghost use Rattle.study.specs.Reading.{reading, reading_for, says, refused};
 ghost use Rattle.lawful.specs.Lengths.{longest_file};
 ghost use Rattle.planning.specs.Seeded.{PlansSeeded};
-ghost use Rattle.explained.specs.Facts.{Fact, rows_of};
+ghost use Rattle.explained.specs.Facts.{Fact as Facts·Fact, rows_of};
 ghost use Rattle.explained.specs.Explained.{Why, Explained};
 ghost use Rattle.answer.specs.Answers.{three};
 ghost use Rattle.turns.specs.Turns.{turns_in};
 
-use answer::Answer;
-use tables::Loaded;
+use answer::{Answer, Rule};
+use facts::Fact;
 
 const STDIN_FILENO: i32 = 0;
 
@@ -40,13 +40,11 @@ fn read(file: &mut [u8]) -> usize
 
 fn print(file: &[u8]) {
     let many = turns::in_file(file);
-    let mut crew = 0;
-    while crew < many {
+    for crew in 0..many {
         if 1 < many {
             print_crew(crew);
         }
         print_for(file, crew);
-        crew += 1;
     }
 }
 
@@ -85,27 +83,17 @@ fn tell_refusal(file: &[u8], crew: u64, answer: Answer, out: &mut [u8]) -> usize
     ensures prefix_len { IsPrefixLen result out.new }
     ensures explained { Explained (reading_for file.now crew) (take result out.new) }
 {
-    let mut facts = [[0u8; 5]; 288];
-    let number = answer.number;
-    let first = answer.first;
-    let second = answer.second;
+    let mut facts = [facts::NONE; 288];
     let n = why(
         file,
         crew,
-        number,
-        first as usize,
-        second as usize,
+        answer.number,
+        answer.first as usize,
+        answer.second as usize,
         &mut facts,
     );
-    let begin = telling::refused(
-        Answer {
-            number,
-            first,
-            second,
-        },
-        out,
-    );
-    wording::lines(&facts, n, out, begin)
+    let begin = telling::refused(answer, out);
+    wording::lines(&facts[..n], out, begin)
 }
 
 // The facts that explain a refusal of the file for a crew, or none where it does not load.
@@ -115,35 +103,45 @@ fn why(
     number: u64,
     first: usize,
     second: usize,
-    facts: &mut [[u8; 5]; 288],
+    facts: &mut [Fact; 288],
 ) -> usize
     requires { (length facts.old ≡ 288) × (number ≢ 0)
         × ((buffer : List ℕ) × PlansSeeded (reading_for file.now crew) (replicate 256 0) (three number first second) buffer) }
     ensures upper_bound { (result ≤ 288) × (length facts.new ≡ 288) }
     ensures why { (t : Study)
         → reading_for file.now crew ≡ says t
-        → (list : List Fact) × (Why t (three number first second) list × (take result facts.new ≡ rows_of list)) }
+        → (list : List Facts·Fact) × (Why t (three number first second) list × (take result facts.new ≡ rows_of list)) }
     ensures by_index { (n place : ℕ) → reading_for file.now crew ≡ refused n place → result ≡ 0 }
 {
     let mut acts = [[0u8; 6]; 256];
     let mut vars = [[0u8; 3]; 32];
     let mut setters = [0u8; 512];
-    let loaded = mustering::load_for(file, crew, &mut acts, &mut vars, &mut setters);
-    let Loaded::Study {
-        vars: n,
-        actions,
-        seed: _,
-    } = loaded
-    else {
+    let Ok(loaded) = mustering::load_for(file, crew, &mut acts, &mut vars, &mut setters) else {
         return 0;
     };
-    if number == 10 {
-        return explaining::why_broken(first, actions, &acts, &vars, &setters, facts);
+    if number == Rule::NoWalk as u64 {
+        return explaining::why_broken(first, loaded.actions, &acts, &vars, &setters, facts);
     }
-    if number == 11 {
+    if number == Rule::OffWalk as u64 {
         return explaining::why_off(
-            file, first, second, n, actions, &acts, &vars, &setters, facts,
+            file,
+            first,
+            second,
+            loaded.vars,
+            loaded.actions,
+            &acts,
+            &vars,
+            &setters,
+            facts,
         );
     }
-    explaining::why_ringed(file, n, actions, &acts, &vars, &setters, facts)
+    explaining::why_ringed(
+        file,
+        loaded.vars,
+        loaded.actions,
+        &acts,
+        &vars,
+        &setters,
+        facts,
+    )
 }

@@ -1,7 +1,10 @@
--- The facts that an explanation tells, a line for each: as a row of numbers, and as text.
+-- The facts that an explanation tells, a line for each: as the code has it, and as text.
 -- Assumes nothing.
-use Rattle.std.specs.Prelude.{ℕ, ◌+◌, List, [], ◌∷◌, ◌++◌, map, get_or}
-use Rattle.tables.specs.Rows.{Row}
+use Rattle.std.specs.Prelude.{ℕ, ◌+◌, List, [], ◌∷◌, ◌++◌, map}
+use Rattle.facts.specs.declared.Fact.{Fact as FactRow}
+use Rattle.facts.specs.declared.Fact.TheVariants.{Goal, Set, Unset, Round, Wants, Start, Walk, Ring, After}
+use Rattle.facts.specs.declared.Rule.{Rule as RuleRow}
+use Rattle.facts.specs.declared.Rule.TheVariants.{Next, Sets, Leaves}
 use Rattle.telling.specs.Text.{spaced, line_end}
 
 -- the rules of 'comes before': (a), (b), (c)
@@ -25,29 +28,61 @@ pub data Fact : Type 0 where
   -- of a step of a plan: it comes after step k, which is action i, by the rule, over v = q
   after : Rule → (k i v q : ℕ) → Fact
 
--- ---- in rows: the kind, and four numbers
+-- ---- as the code has them
+
+abbrev pub rule_row : Rule → RuleRow
+rule_row next = Next
+rule_row sets = Sets
+rule_row leaves = Leaves
+
+abbrev pub row_of : Fact → FactRow
+row_of (goal v q) = Goal v q
+row_of (set v q i p) = Set v q i p
+row_of (unset v q) = Unset v q
+row_of (round v q) = Round v q
+row_of (wants i v q) = Wants i v q
+row_of (start v q) = Start v q
+row_of (walk v i p q) = Walk v i p q
+row_of (ring r i j v q) = Ring (rule_row r) i j v q
+row_of (after r k i v q) = After (rule_row r) k i v q
+
+abbrev pub rows_of : List Fact → List FactRow
+rows_of facts = map row_of facts
+
+-- ---- in numbers: which kind of fact it is
 
 abbrev pub rule_number : Rule → ℕ
 rule_number next = 0
 rule_number sets = 1
 rule_number leaves = 2
 
-abbrev pub row_of : Fact → Row
-row_of (goal v q) = 0 ∷ v ∷ q ∷ 0 ∷ 0 ∷ []
-row_of (set v q i p) = 1 ∷ v ∷ q ∷ i ∷ p ∷ []
-row_of (unset v q) = 2 ∷ v ∷ q ∷ 0 ∷ 0 ∷ []
-row_of (round v q) = 3 ∷ v ∷ q ∷ 0 ∷ 0 ∷ []
-row_of (wants i v q) = 4 ∷ i ∷ v ∷ q ∷ 0 ∷ []
-row_of (start v q) = 5 ∷ v ∷ q ∷ 0 ∷ 0 ∷ []
-row_of (walk v i p q) = 6 ∷ v ∷ i ∷ p ∷ q ∷ []
-row_of (ring r i j v q) = (7 + rule_number r) ∷ i ∷ j ∷ v ∷ q ∷ []
-row_of (after r k i v q) = (10 + rule_number r) ∷ k ∷ i ∷ v ∷ q ∷ []
-
 abbrev pub kind_of : Fact → ℕ
-kind_of f = get_or (row_of f) 0 0
+kind_of (goal v q) = 0
+kind_of (set v q i p) = 1
+kind_of (unset v q) = 2
+kind_of (round v q) = 3
+kind_of (wants i v q) = 4
+kind_of (start v q) = 5
+kind_of (walk v i p q) = 6
+kind_of (ring r i j v q) = 7 + rule_number r
+kind_of (after r k i v q) = 10 + rule_number r
 
-abbrev pub rows_of : List Fact → List Row
-rows_of facts = map row_of facts
+-- .. and of a row
+abbrev pub rule_in : RuleRow → ℕ
+rule_in Next = 0
+rule_in Sets = 1
+rule_in Leaves = 2
+
+abbrev pub kind_in : FactRow → ℕ
+kind_in (Goal v q) = 0
+kind_in (Set v q i p) = 1
+kind_in (Unset v q) = 2
+kind_in (Round v q) = 3
+kind_in (Wants i v q) = 4
+kind_in (Start v q) = 5
+kind_in (Walk v i p q) = 6
+kind_in (Ring r i j v q) = 7 + rule_in r
+kind_in (After r k i v q) = 10 + rule_in r
 
 -- ---- as text: words, and numbers after them
 

@@ -1,10 +1,8 @@
 -- A known study with all its walks and every condition on them: what is asked for where its walk actions are taken, and where its ring is told.
 -- Assumes nothing.
-use mathlib.Core.Path.{◌≡◌}
 use mathlib.Core.List.{List, []}
 use Prim.Native.Nat.{ℕ}
 use native.Mathlib.Omega.{arith}
-use lib.ListN.{length}
 use Rattle.bits.specs.Bits.{within}
 use Rattle.study.specs.Study.{Study}
 use Rattle.tables.specs.Tables.{HoldsActions}
@@ -12,7 +10,7 @@ use Rattle.tables.specs.Rows.{Row, start_column, seen}
 use Rattle.walks.specs.Walks.{Walks, Met}
 use Rattle.tracing.specs.Facts.{WishesIn}
 use Rattle.tracing.specs.Steps.{WalksAll}
-use Rattle.tracing.specs.declared.Walked.TheVariants.{All}
+use Rattle.std.specs.Prelude.{Ok}
 use Rattle.stages.specs.Whole.{KnownIn}
 use Rattle.stages.proofs.Stages.{held_wishes}
 use Rattle.explained.specs.Wanters.{Sets, Noted}
@@ -55,7 +53,7 @@ module _
     }
 
     module _ (walks : Walks t) (met : Met t) where
-      pub known_untaken : {total : ℕ} (steps : List ℕ) → WalksAll t n steps (All total) → UntakenIn file n a total acts vars steps t
+      pub known_untaken : {total : ℕ} (steps : List ℕ) → WalksAll t n steps (Ok total) → UntakenIn file n a total acts vars steps t
       known_untaken steps (rowed, (list, (members, counted))) = record {
         orderly = record { lawful = known.lawful; walks = walks; met = met; list = list; members = members; counted = counted };
         variables = known.variables;

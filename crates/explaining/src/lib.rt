@@ -6,11 +6,11 @@ ghost use Rattle.study.specs.Study.{Study};
 ghost use Rattle.walks.specs.Walks.{Walks, Met};
 ghost use Rattle.planning.specs.Planning.{LowestOff};
 ghost use Rattle.stages.specs.Whole.{KnownIn};
-ghost use Rattle.explained.specs.Facts.{Fact, rows_of};
+ghost use Rattle.explained.specs.Facts.{Fact as Facts·Fact, rows_of};
 ghost use Rattle.explained.specs.Refusals.{TracedFromGoal, WalkedPast};
 ghost use Rattle.explained.specs.Rings.{Stuck, Circled};
 
-use tracing::Walked;
+use facts::Fact;
 
 // Refusal 10: variable v has no walk.
 pub fn why_broken(
@@ -19,7 +19,7 @@ pub fn why_broken(
     acts: &[[u8; 6]; 256],
     vars: &[[u8; 3]; 32],
     setters: &[u8; 512],
-    facts: &mut [[u8; 5]; 288],
+    facts: &mut [Fact; 288],
 ) -> usize
     requires { (length facts.old ≡ 288)
         × ((t : Study) × (file : List ℕ) × (n x : ℕ) × KnownIn file n actions x acts.now vars.now setters.now t × (v < length t.tasks)) }
@@ -27,7 +27,7 @@ pub fn why_broken(
     ensures by_index { (file : List ℕ) (n x : ℕ) (t : Study)
         → KnownIn file n actions x acts.now vars.now setters.now t
         → v < length t.tasks
-        → (list : List Fact) × (TracedFromGoal t v list × (take result facts.new ≡ rows_of list)) }
+        → (list : List Facts·Fact) × (TracedFromGoal t v list × (take result facts.new ≡ rows_of list)) }
 {
     let var = tables::variable_at(vars, v);
     finding::trace_back(v as u8, var.goal, actions, acts, setters, facts)
@@ -43,7 +43,7 @@ pub fn why_off(
     acts: &[[u8; 6]; 256],
     vars: &[[u8; 3]; 32],
     setters: &[u8; 512],
-    facts: &mut [[u8; 5]; 288],
+    facts: &mut [Fact; 288],
 ) -> usize
     requires { (length facts.old ≡ 288)
         × ((t : Study) × (x : ℕ) × KnownIn file.now n actions x acts.now vars.now setters.now t × Walks t × LowestOff t i u) }
@@ -52,10 +52,11 @@ pub fn why_off(
         → KnownIn file.now n actions x acts.now vars.now setters.now t
         → Walks t
         → LowestOff t i u
-        → (list : List Fact) × (WalkedPast t i u list × (take result facts.new ≡ rows_of list)) }
+        → (list : List Facts·Fact) × (WalkedPast t i u list × (take result facts.new ≡ rows_of list)) }
 {
     let mut steps = [0u16; 512];
-    tracing::walk_all(n, actions, acts, vars, setters, &mut steps);
+    // every variable has a walk, so nothing is refused
+    let _ = tracing::walk_all(n, actions, acts, vars, setters, &mut steps);
     let act = tables::action_at(acts, i);
     let var = tables::variable_at(vars, u);
     let value = finding::wanted_value(file, act.place, act.many, u as u8);
@@ -70,7 +71,7 @@ pub fn why_ringed(
     acts: &[[u8; 6]; 256],
     vars: &[[u8; 3]; 32],
     setters: &[u8; 512],
-    facts: &mut [[u8; 5]; 288],
+    facts: &mut [Fact; 288],
 ) -> usize
     requires { (length facts.old ≡ 288)
         × ((t : Study) × (x i : ℕ) × KnownIn file.now n actions x acts.now vars.now setters.now t × Walks t × Met t × Stuck t i) }
@@ -80,11 +81,11 @@ pub fn why_ringed(
         → Walks t
         → Met t
         → Stuck t i
-        → (list : List Fact) × (Circled t list × (take result facts.new ≡ rows_of list)) }
+        → (list : List Facts·Fact) × (Circled t list × (take result facts.new ≡ rows_of list)) }
 {
     let mut steps = [0u16; 512];
     let walked = tracing::walk_all(n, actions, acts, vars, setters, &mut steps);
-    let Walked::All(total) = walked else {
+    let Ok(total) = walked else {
         return 0;
     };
     let mut left = [0u64; 4];

@@ -17,12 +17,14 @@ use Rattle.study.specs.Study.{Study}
 use Rattle.orders.specs.Orders.{In, Distinct}
 use Rattle.orders.proofs.Lists.{distinct_below}
 use Rattle.walks.specs.Walks.{pre_of, goal_of}
-use Rattle.walks.specs.Breaks.{Unset}
+use Rattle.walks.specs.Breaks.{Unset as IsUnset}
 use Rattle.tables.specs.Rows.{Row, pre_column}
 use Rattle.tracing.specs.Facts.{MovesIn}
 use Rattle.tracing.specs.Steps.{SetterIs}
-use Rattle.tracing.specs.declared.Named.TheVariants.{Is}
+use Rattle.std.specs.Prelude.{Some}
 use Rattle.tracing.proofs.Ranges.{told_pre, told_pre_small}
+use Rattle.facts.specs.declared.Fact.{Fact as FactRow}
+use Rattle.facts.specs.declared.Fact.TheVariants.{Goal, Set, Unset, Round}
 use Rattle.explained.specs.Facts.{Fact, goal, set, unset, round, row_of, rows_of}
 use Rattle.explained.specs.Refusals.{Traced, comes_back, breaks_off, goes_on, TracedFromGoal}
 
@@ -70,7 +72,7 @@ one_more_fact : (list : List Fact) (f : Fact) → rows_of (list ++ (f ∷ [])) �
 one_more_fact list f = map-append row_of list (f ∷ [])
 
 -- where the loop stands in turn k: what is traced on from q completes the trace from the goal g
-pub record Backward (v g a : ℕ) (setters : List ℕ) (acts facts : List Row) (n passed q k : ℕ) : Type 0 where
+pub record Backward (v g a : ℕ) (setters : List ℕ) (acts : List Row) (facts : List FactRow) (n passed q k : ℕ) : Type 0 where
   pub some : (t : Study) × MovesIn a setters acts t
   pub sized : length facts ≡ 288
   pub count : n ≡ k + 1
@@ -84,9 +86,9 @@ pub record Backward (v g a : ℕ) (setters : List ℕ) (acts facts : List Row) (
       (t : Study) → MovesIn a setters acts t → (rest : List Fact) → Traced t v q values rest → Traced t v g [] (so_far_lem ++ rest)
 
 pub begins :
-    {v g a : ℕ} {setters : List ℕ} {acts facts : List Row} {n : ℕ}
+    {v g a : ℕ} {setters : List ℕ} {acts : List Row} {facts : List FactRow} {n : ℕ}
     → (t : Study) × MovesIn a setters acts t → length facts ≡ 288 → n ≡ 1 → g < 16
-    → take n facts ≡ (0 ∷ v ∷ g ∷ 0 ∷ 0 ∷ []) ∷ []
+    → take n facts ≡ Goal v g ∷ []
     → Backward v g a setters acts facts n 0 g 0
 begins some sized count low told = record {
   some = some;
@@ -102,19 +104,19 @@ begins some sized count low told = record {
 }
 
 -- the facts of a trace from the goal, as the rows hold them
-abbrev pub Told : ℕ → ℕ → ℕ → List ℕ → List Row → List Row → ℕ → Type 0
+abbrev pub Told : ℕ → ℕ → ℕ → List ℕ → List Row → List FactRow → ℕ → Type 0
 Told v g a setters acts facts n =
     (t : Study) → MovesIn a setters acts t → goal_of t v ≡ g
     → (list : List Fact) × (TracedFromGoal t v list × (take n facts ≡ rows_of list))
 
 module _
-    {v g a : ℕ} {setters : List ℕ} {acts facts : List Row} {n passed q k : ℕ}
+    {v g a : ℕ} {setters : List ℕ} {acts : List Row} {facts : List FactRow} {n passed q k : ℕ}
     (back : Backward v g a setters acts facts n passed q k) where
   -- the trace comes round before the turns end
   pub few_turns : k ≤ 16
   few_turns = omega (arith, few_marked back.marks, back.long)
 
-  module _ (facts' : List Row) (n' : ℕ) where
+  module _ (facts' : List FactRow) (n' : ℕ) where
     -- a fact that ends the trace
     ends :
         (f : Fact) → take n' facts' ≡ take n facts ++ (row_of f ∷ [])
@@ -129,21 +131,21 @@ module _
         )
 
     pub ends_round :
-        bit passed q ≡ true → take n' facts' ≡ take n facts ++ ((3 ∷ v ∷ q ∷ 0 ∷ 0 ∷ []) ∷ []) → Told v g a setters acts facts' n'
+        bit passed q ≡ true → take n' facts' ≡ take n facts ++ (Round v q ∷ []) → Told v g a setters acts facts' n'
     ends_round on told = ends (round v q) told (λ t moves. comes_back (back.marks.there q on))
 
     pub ends_unset :
-        bit passed q ≡ false → ((t : Study) → MovesIn a setters acts t → Unset t v q)
-        → take n' facts' ≡ take n facts ++ ((2 ∷ v ∷ q ∷ 0 ∷ 0 ∷ []) ∷ []) → Told v g a setters acts facts' n'
+        bit passed q ≡ false → ((t : Study) → MovesIn a setters acts t → IsUnset t v q)
+        → take n' facts' ≡ take n facts ++ (Unset v q ∷ []) → Told v g a setters acts facts' n'
     ends_unset off none told = ends (unset v q) told (λ t moves. breaks_off (not_marked back.marks q off) (none t moves))
 
     -- one action further back
     pub further :
         {i p passed' : ℕ}
-        → bit passed q ≡ false → ((t : Study) → MovesIn a setters acts t → SetterIs t v q (Is i))
+        → bit passed q ≡ false → ((t : Study) → MovesIn a setters acts t → SetterIs t v q (Some i))
         → p ≡ get_or (pre_column acts) i 0
         → n' ≡ n + 1 → length facts' ≡ 288
-        → take n' facts' ≡ take n facts ++ ((1 ∷ v ∷ q ∷ i ∷ p ∷ []) ∷ [])
+        → take n' facts' ≡ take n facts ++ (Set v q i p ∷ [])
         → ((j : ℕ) → bit passed' j ≡ (eqb q j || bit passed j))
         → Backward v g a setters acts facts' n' passed' p (suc k)
     further {i} {p} {passed'} off setter is_pre count sized told more =

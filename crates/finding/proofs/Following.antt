@@ -14,6 +14,8 @@ use Rattle.walks.proofs.Along.{reached, reached_left, reached_last}
 use Rattle.tables.specs.Rows.{Row, post_column}
 use Rattle.tracing.proofs.Ranges.{pre_small, start_small, goal_small, few_tasks}
 use Rattle.tracing.proofs.Few.{trail_short}
+use Rattle.facts.specs.declared.Fact.{Fact as FactRow}
+use Rattle.facts.specs.declared.Fact.TheVariants.{Wants, Start, Walk}
 use Rattle.explained.specs.Facts.{row_of, rows_of}
 use Rattle.explained.specs.Refusals.{walk_fact}
 use Rattle.finding.specs.Past.{Past, past_facts}
@@ -68,23 +70,23 @@ one_more_fact :
 one_more_fact t i u value list a = simp map-append
 
 -- the first k actions are followed and told
-pub record After (t : Study) (i u value : ℕ) (list : List ℕ) (facts : List Row) (n k q : ℕ) : Type 0 where
+pub record After (t : Study) (i u value : ℕ) (list : List ℕ) (facts : List FactRow) (n k q : ℕ) : Type 0 where
   pub inside : k ≤ length list
   pub is : q ≡ reached t u list k
   pub told : take n facts ≡ rows_of (past_facts t i u value (take k list))
 
 -- where the loop stands in turn k
-pub record Following (i u value first : ℕ) (acts : List Row) (steps : List ℕ) (facts : List Row) (n q k : ℕ) : Type 0 where
+pub record Following (i u value first : ℕ) (acts : List Row) (steps : List ℕ) (facts : List FactRow) (n q k : ℕ) : Type 0 where
   pub some : (t : Study) × (list : List ℕ) × Past u acts steps t list × (first ≡ start_of t u)
   pub sized : length facts ≡ 288
   pub count : n ≡ k + 2
   pub after : (t : Study) (list : List ℕ) → Past u acts steps t list → first ≡ start_of t u → After t i u value list facts n k q
 
 pub begins :
-    {i u value first : ℕ} {acts : List Row} {steps : List ℕ} {facts : List Row} {n : ℕ}
+    {i u value first : ℕ} {acts : List Row} {steps : List ℕ} {facts : List FactRow} {n : ℕ}
     → (t : Study) × (list : List ℕ) × Past u acts steps t list × (first ≡ start_of t u)
     → length facts ≡ 288 → n ≡ 2
-    → take n facts ≡ (4 ∷ i ∷ u ∷ value ∷ 0 ∷ []) ∷ (5 ∷ u ∷ first ∷ 0 ∷ 0 ∷ []) ∷ []
+    → take n facts ≡ Wants i u value ∷ Start u first ∷ []
     → Following i u value first acts steps facts n first 0
 begins some sized count told = record {
   some = some;
@@ -94,7 +96,7 @@ begins some sized count told = record {
 }
 
 module _
-    {i u value first : ℕ} {acts : List Row} {steps : List ℕ} {facts : List Row} {n q k : ℕ}
+    {i u value first : ℕ} {acts : List Row} {steps : List ℕ} {facts : List FactRow} {n q k : ℕ}
     (following : Following i u value first acts steps facts n q k) where
   -- the value is one of a variable's
   pub value_low : (u < 32) × (q < 16)
@@ -148,10 +150,10 @@ module _
           )
 
       pub goes_on :
-          {facts' : List Row} {n' post : ℕ}
+          {facts' : List FactRow} {n' post : ℕ}
           → n' ≡ n + 1 → length facts' ≡ 288
           → post ≡ get_or (post_column acts) (get_or steps (16 * x + y) 0 - 2) 0
-          → take n' facts' ≡ take n facts ++ ((6 ∷ u ∷ (get_or steps (16 * x + y) 0 - 2) ∷ q ∷ post ∷ []) ∷ [])
+          → take n' facts' ≡ take n facts ++ (Walk u (get_or steps (16 * x + y) 0 - 2) q post ∷ [])
           → Following i u value first acts steps facts' n' post (suc k)
       goes_on {facts'} {n'} {post} count sized told-after told = record {
         some = following.some;

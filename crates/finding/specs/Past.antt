@@ -1,6 +1,6 @@
 -- A walk entered in the table of steps, to be followed from its start on.
 -- Assumes nothing.
-use Rattle.std.specs.Prelude.{ℕ, ◌<◌, ◌≡◌, List, ◌∷◌, map, length}
+use Rattle.std.specs.Prelude.{ℕ, ◌<◌, List, ◌∷◌, map, length}
 use Rattle.study.specs.Study.{Study}
 use Rattle.lawful.specs.Lawful.{Lawful}
 use Rattle.tables.specs.Rows.{Row, post_column}

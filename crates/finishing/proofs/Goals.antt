@@ -9,12 +9,12 @@ use lib.Dec.{eqb}
 use lib.ListN.{length, get_or, take, drop, drop_of_length-le}
 use lib.Seq.{drop-cons, get_or-take}
 use borrow.Author.Tests.{eq-eqb, ne_eqb}
+use Rattle.std.specs.Prelude.{None, Some}
 use Rattle.plain.specs.Choose.{pick}
 use Rattle.study.specs.Study.{Task, task_at, no_task}
 use Rattle.plans.specs.Plans.{State, value_of}
 use Rattle.tables.specs.Tables.{HoldsTasks}
 use Rattle.runs.specs.Run.{fails, away}
-use Rattle.finishing.specs.declared.Fails.TheVariants.{Nowhere, At}
 use Rattle.finishing.specs.Finishing.{fails_of}
 
 away_at :
@@ -35,12 +35,12 @@ module _ {n : ℕ} {starts goals : List ℕ} {tasks : List Task} (holds : HoldsT
   There v = away s v (drop v tasks) ≡ away s 0 tasks
 
   module _ (v : ℕ) (h : v < n) (there : There v) {goal : ℕ} (is : goal ≡ get_or goals v 0) where
-    pub variable_away : (get_or s v 0 ≡ goal → ⊥) → At v ≡ fails_of (away s 0 tasks)
+    pub variable_away : (get_or s v 0 ≡ goal → ⊥) → Some v ≡ fails_of (away s 0 tasks)
     variable_away = rw (is, holds.goal v h) (λ o. rw (← there, away_at s tasks v (omega (arith, holds.count)), ne_eqb _ _ o))
 
     pub variable_there : get_or s v 0 ≡ goal → There (v + 1)
     variable_there = rw (is, holds.goal v h) (λ e. rw (← there, away_at s tasks v (omega (arith, holds.count)), eq-eqb _ _ e))
 
-  pub none_away : (v : ℕ) → n ≤ v → There v → Nowhere ≡ fails_of (away s 0 tasks)
+  pub none_away : (v : ℕ) → n ≤ v → There v → None ≡ fails_of (away s 0 tasks)
   unfolding away
   none_away v h there = rw (← there, drop_of_length-le tasks {i = v} (omega (arith, holds.count)))

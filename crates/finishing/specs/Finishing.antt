@@ -1,20 +1,18 @@
 -- How what was loaded answers to the definition of running a list.
 -- Assumes nothing.
-use Rattle.std.specs.Prelude.{ℕ, ◌≡◌, List, [], length}
+use Rattle.std.specs.Prelude.{ℕ, ◌≡◌, List, [], Option, None, Some, Result, Ok, Err, length}
 use Rattle.answer.specs.declared.Answer.{Answer}
 use Rattle.study.specs.Study.{Study}
 use Rattle.plans.specs.Plans.{start_state}
-use Rattle.runs.specs.Run.{Failing, none, fails, ends_in, run_on, run_answer}
+use Rattle.runs.specs.Run.{Failing, none, fails, ends_in, stops, run_on}
 use Rattle.barring.specs.Telling.{shown}
-use Rattle.finishing.specs.declared.Fails.{Fails}
-use Rattle.finishing.specs.declared.Fails.TheVariants.{Nowhere, At}
 
 -- the definition's answer as the code gives it
-abbrev pub fails_of : Failing → Fails
-fails_of none = Nowhere
-fails_of (fails v) = At v
+abbrev pub fails_of : Failing → Option ℕ
+fails_of none = None
+fails_of (fails v) = Some v
 
--- the answer of a run from the start; after answer 0 the table shows the end state
-pub record Ends (t : Study) (plan table : List ℕ) (answer : Answer) : Type 0 where
-  pub answers : answer ≡ run_answer (run_on t [] (start_state t) 0 plan)
-  pub shows : answer.number ≡ 0 → (run_on t [] (start_state t) 0 plan ≡ ends_in (shown t table)) × (length table ≡ 32)
+-- what a run from the start comes to: the end state, which the table shows, or the refusal
+abbrev pub Ends : Study → List ℕ → List ℕ → Result (Unit {0}) Answer → Type 0
+Ends t plan table (Ok done) = (run_on t [] (start_state t) 0 plan ≡ ends_in (shown t table)) × (length table ≡ 32)
+Ends t plan table (Err a) = run_on t [] (start_state t) 0 plan ≡ stops a

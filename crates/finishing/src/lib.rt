@@ -3,8 +3,7 @@
 
 mod ends;
 
-ghost use Rattle.std.specs.Prelude.{◌≡◌, List, ℕ};
-ghost use Rattle.answer.specs.Answers.{three};
+ghost use Rattle.std.specs.Prelude.{◌≡◌, List, ℕ, Ok};
 ghost use Rattle.study.specs.Study.{Study};
 ghost use Rattle.runs.specs.Run.{RunAllows};
 ghost use Rattle.tables.specs.Tables.{Loads};
@@ -12,27 +11,8 @@ ghost use Rattle.tables.specs.Rows.{start_column, seen_all, Begins};
 ghost use Rattle.barring.specs.Telling.{Prepared};
 ghost use Rattle.finishing.specs.Finishing.{Ends};
 
-use answer::Answer;
-use stepping::Turn;
+use answer::{Answer, Rule};
 use tables::Loaded;
-
-// The first variable that is not at its goal, if there is one.
-#[derive(Clone, Copy)]
-pub enum Fails {
-    Nowhere,
-    At(u64),
-}
-
-// An answer whose second number is 0.
-fn answer_of(number: u64, first: u64) -> Answer
-    ensures { result ≡ three number first 0 }
-{
-    Answer {
-        number,
-        first,
-        second: 0,
-    }
-}
 
 // Does the whole list and holds its end to the goal. The start state is the current one to begin with, and each step alters it.
 fn run_from(
@@ -43,20 +23,17 @@ fn run_from(
     acts: &[[u8; 6]; 256],
     vars: &[[u8; 3]; 32],
     current: &mut [u8; 32],
-) -> Answer
+) -> Result<(), Answer>
     requires { ((t : Study) × Prepared file.now n actions acts.now vars.now t) × Begins n (start_column vars.now) current.old }
     ensures { (t : Study)
         → Prepared file.now n actions acts.now vars.now t
         → Ends t plan.now current.new result }
 {
-    let turn = stepping::do_steps(file, plan, n, actions, acts, current);
-    if let Turn::Stops(answer) = turn {
-        return answer;
+    stepping::do_steps(file, plan, n, actions, acts, current)?;
+    if let Some(v) = ends::away(n, current, vars) {
+        return Err(Rule::AwayFromGoal.refusal(v as u64));
     }
-    if let Fails::At(v) = ends::away(n, current, vars) {
-        return answer_of(17, v);
-    }
-    answer_of(0, n as u64)
+    Ok(())
 }
 
 // Runs the list on what was loaded for a crew. Answer 0 gives the number of variables and writes the end state; a refusal alters nothing.
@@ -68,27 +45,21 @@ pub fn run_loaded(
     vars: &[[u8; 3]; 32],
     state: &mut [u8],
 ) -> Answer
-    requires { (crew : ℕ) × (setters : List ℕ) × Loads file.now crew (seen_all acts.now vars.now setters) loaded }
+    requires { (crew : ℕ) × (setters : List ℕ) × Loads file.now crew (seen_all acts.now vars.now setters) (Ok loaded) }
     ensures { (crew : ℕ) (setters : List ℕ)
-        → Loads file.now crew (seen_all acts.now vars.now setters) loaded
+        → Loads file.now crew (seen_all acts.now vars.now setters) (Ok loaded)
         → RunAllows file.now crew plan.now state.old result state.new }
 {
-    let Loaded::Study {
-        vars: n,
-        actions,
-        seed: _,
-    } = loaded
-    else {
-        return tables::refused(loaded);
-    };
+    let n = loaded.vars;
     if state.len() < n {
-        return answer_of(13, n as u64);
+        return Rule::NoRoom.refusal(n as u64);
     }
     let mut current = [0u8; 32];
     tables::set_out(n, vars, &mut current);
-    let answer = run_from(file, plan, n, actions, acts, vars, &mut current);
-    if answer.number == 0 {
-        ends::copy_state(n, &current, state);
+    let ran = run_from(file, plan, n, loaded.actions, acts, vars, &mut current);
+    if let Err(answer) = ran {
+        return answer;
     }
-    answer
+    state[..n].copy_from_slice(&current[..n]);
+    Answer::done(n as u64, 0)
 }

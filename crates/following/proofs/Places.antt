@@ -2,25 +2,33 @@
 -- Assumes nothing.
 use Rattle.std.proofs.Common.{◌≡◌, ℕ, ◌+◌, ◌*◌, ◌<◌, ◌≤◌, true, false, eqb, ◌≢◌, List, length, get_or, drop, sym, refl, ◌∙◌, inl, arith}
 use borrow.Author.Tests.{lt-leb}
-use Rattle.answer.specs.Answers.{refusal}
-use Rattle.study.specs.Study.{Study, action_at}
+use Rattle.std.specs.Prelude.{Result, Ok, Err}
+use Rattle.answer.specs.Answers.{number_of}
+use Rattle.answer.specs.declared.Refusal.{Refusal}
+use Rattle.answer.specs.declared.Rule.{Rule}
+use Rattle.answer.specs.declared.Rule.TheVariants as Rule-of
+use Rattle.following.specs.declared.looking.Event.{Event}
+use Rattle.study.specs.Study.{Study}
 use Rattle.plans.specs.Plans.{Usable}
 use Rattle.tables.specs.Rows.{Row, out_column}
 use Rattle.replays.specs.Log.{Log, event, event_kind, event_length, most_events, log_of}
-use Rattle.replays.specs.Replay.{Progress, seen, step_at, went_back_lem, stops, replay_on}
+use Rattle.replays.specs.Replay.{Progress, step_at, went_back_lem, replay_on}
 use Rattle.replays.proofs.Refusals.{Refuses, too_many, no_action_lem, out_of_force, went_back, stops_exactly}
 use Rattle.replays.proofs.Places.{event_at, cut_at, other_at}
 use Rattle.barring.specs.Telling.{Ready}
-use Rattle.following.specs.declared.looking.Seen.TheVariants.{Event, Refused}
 use Rattle.following.specs.Following.{Looks}
 
 module _ (t : Study) (p : Progress) (log : List ℕ) (at : ℕ) (some : at < length log) where
-  pub looks_2 : get_or log at 0 ≢ event_kind → Looks t p log at (Refused 2)
+  -- the place is refused for this rule
+  abbrev gone : Rule → Result Event Refusal
+  gone rule = Err (record { rule = rule; place = at })
+
+  pub looks_2 : get_or log at 0 ≢ event_kind → Looks t p log at (gone Rule-of.NoKind)
   unfolding replay_on
   looks_2 o = rw (other_at log at some o)
 
   module _ (kind : get_or log at 0 ≡ event_kind) where
-    pub looks_1 : length log < at + event_length → Looks t p log at (Refused 1)
+    pub looks_1 : length log < at + event_length → Looks t p log at (gone Rule-of.Cut)
     unfolding replay_on
     looks_1 h = rw (cut_at log at some h kind)
 
@@ -35,22 +43,22 @@ module _ (t : Study) (p : Progress) (log : List ℕ) (at : ℕ) (some : at < len
       abbrev rest : Log
       rest = log_of (drop (at + event_length) log)
 
-      refused_by : (number : ℕ) → Refuses t p at tick action number → Looks t p log at (Refused number)
-      refused_by number r = rw (event_at log at whole kind) ((stops_exactly t p at (event tick action rest) number at).1 (inl (r, refl)))
+      refused_by : (rule : Rule) → Refuses t p at tick action (number_of rule) → Looks t p log at (gone rule)
+      refused_by rule r = rw (event_at log at whole kind) ((stops_exactly t p at (event tick action rest) (number_of rule) at).1 (inl (r, refl)))
 
-      pub looks_19 : 65536 ≤ at → Looks t p log at (Refused 19)
-      looks_19 h = refused_by 19 (too_many (omega arith))
+      pub looks_19 : 65536 ≤ at → Looks t p log at (gone Rule-of.WrongCount)
+      looks_19 h = refused_by Rule-of.WrongCount (too_many (omega arith))
 
       module _ (early : at < 65536) {file : List ℕ} {actions : ℕ} {acts : List Row} (ready : Ready file actions acts t) where
         few : p.done + p.held < most_events
         few = omega arith
 
-        pub looks_14 : actions ≤ action → Looks t p log at (Refused 14)
-        looks_14 h = refused_by 14 (no_action_lem few (omega (arith, ready.count)))
+        pub looks_14 : actions ≤ action → Looks t p log at (gone Rule-of.NoAction)
+        looks_14 h = refused_by Rule-of.NoAction (no_action_lem few (omega (arith, ready.count)))
 
         module _ (there : action < actions) where
-          pub looks_20 : eqb (get_or (out_column acts) action 0) 0 ≡ false → Looks t p log at (Refused 20)
-          looks_20 out = refused_by 20 (out_of_force few (omega (arith, ready.count)) (sym (ready.force action there) ∙ out))
+          pub looks_20 : eqb (get_or (out_column acts) action 0) 0 ≡ false → Looks t p log at (gone Rule-of.OutOfForce)
+          looks_20 out = refused_by Rule-of.OutOfForce (out_of_force few (omega (arith, ready.count)) (sym (ready.force action there) ∙ out))
 
           module _ (force : eqb (get_or (out_column acts) action 0) 0 ≡ true) where
             usable : Usable t action
@@ -60,10 +68,10 @@ module _ (t : Study) (p : Progress) (log : List ℕ) (at : ℕ) (some : at < len
               step_there : step ≡ step_at at p.last tick
               step_there = rw (← last_is) step_is
 
-              pub looks_23 : went_back_lem ≤ step → Looks t p log at (Refused 23)
-              looks_23 h = refused_by 23 (went_back few usable (omega (arith, step_there)))
+              pub looks_23 : went_back_lem ≤ step → Looks t p log at (gone Rule-of.WentBack)
+              looks_23 h = refused_by Rule-of.WentBack (went_back few usable (omega (arith, step_there)))
 
-              pub looks_on : step < went_back_lem → {tick' : ℕ} → tick' ≡ tick → Looks t p log at (Event action tick' step)
+              pub looks_on : step < went_back_lem → {tick' : ℕ} → tick' ≡ tick → Looks t p log at (Ok (record { action = action; tick = tick'; step = step }))
               unfolding replay_on
               looks_on h e =
                   let forth : step_at at p.last tick < went_back_lem = omega (arith, step_there) in

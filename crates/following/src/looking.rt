@@ -5,11 +5,14 @@ ghost use Rattle.replays.specs.Replay.{Progress, step_at};
 ghost use Rattle.barring.specs.Telling.{Ready};
 ghost use Rattle.following.specs.Following.{Sound, Looks};
 
-// An event with its action, its tick and its step; or the number that refuses it.
+use answer::{Refusal, Rule};
+
+// An event with its action, its tick and its step.
 #[derive(Clone, Copy)]
-pub(crate) enum Seen {
-    Event { action: u8, tick: u16, step: u16 },
-    Refused(u64),
+pub(crate) struct Event {
+    pub(crate) action: u8,
+    pub(crate) tick: u16,
+    pub(crate) step: u16,
 }
 
 // Two bytes, most significant first.
@@ -29,7 +32,13 @@ fn step_to(at: usize, last: u16, tick: u16) -> u16
     std::num::wrapping_sub_u16(tick, last)
 }
 
-pub(crate) fn look(log: &[u8], at: usize, last: u16, actions: usize, acts: &[[u8; 6]; 256]) -> Seen
+pub(crate) fn look(
+    log: &[u8],
+    at: usize,
+    last: u16,
+    actions: usize,
+    acts: &[[u8; 6]; 256],
+) -> Result<Event, Refusal>
     requires { at < length log.now }
     ensures sound { Sound log.now at actions result }
     ensures by_index { (file : List ℕ) (t : Study) (p : Progress)
@@ -39,25 +48,25 @@ pub(crate) fn look(log: &[u8], at: usize, last: u16, actions: usize, acts: &[[u8
         → Looks t p log.now at result }
 {
     if log[at] != 16 {
-        return Seen::Refused(2);
+        return Err(Rule::NoKind.at(at));
     }
     if log.len() - at < 4 {
-        return Seen::Refused(1);
+        return Err(Rule::Cut.at(at));
     }
     if 65536 <= at {
-        return Seen::Refused(19);
+        return Err(Rule::WrongCount.at(at));
     }
     let action = log[at + 3];
     if actions <= tables::wide(action) {
-        return Seen::Refused(14);
+        return Err(Rule::NoAction.at(at));
     }
     if !tables::in_force(acts, tables::wide(action)) {
-        return Seen::Refused(20);
+        return Err(Rule::OutOfForce.at(at));
     }
     let tick = tick_of(log[at + 1], log[at + 2]);
     let step = step_to(at, last, tick);
     if 32768 <= step {
-        return Seen::Refused(23);
+        return Err(Rule::WentBack.at(at));
     }
-    Seen::Event { action, tick, step }
+    Ok(Event { action, tick, step })
 }

@@ -10,7 +10,7 @@ use lib.Seq.{take_at}
 use Rattle.answer.specs.Answers.{done}
 use Rattle.answer.specs.declared.Answer.{Answer}
 use Rattle.ranking.specs.Ranking.{tested}
-use Rattle.ranking.specs.declared.Tested.TheVariants.{Fine}
+use Rattle.std.specs.Prelude.{Ok}
 use Rattle.study.specs.Study.{Study}
 use Rattle.lawful.specs.Lawful.{Lawful}
 use Rattle.planning.specs.Refusals.{short_buffer}
@@ -22,7 +22,7 @@ use Rattle.handing.specs.Handing.{InRoom}
 pub data Came (t : Study) (ranks bytes : List ℕ) : Answer → Type 0 where
   no_plan : {r : Answer} → ((before : List ℕ) → Plans t ranks before r before) → r.number ≢ 0 → Came t ranks bytes r
   the_plan :
-      {list : List ℕ} → tested ranks (length t.actions) ≡ Fine → FirstPlan t ranks list → length list ≤ 256 → take (length list) bytes ≡ list
+      {list : List ℕ} → tested ranks (length t.actions) ≡ Ok tt → FirstPlan t ranks list → length list ≤ 256 → take (length list) bytes ≡ list
       → Came t ranks bytes (done (length list) 0)
 
 came :

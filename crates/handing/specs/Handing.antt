@@ -1,9 +1,8 @@
 -- What was taken of a study, and what planning came to, before it is handed over.
 -- Assumes nothing.
-use Rattle.std.specs.Prelude.{ℕ, ◌≡◌, List, length, take, drop}
+use Rattle.std.specs.Prelude.{ℕ, ◌≡◌, List, length, take, drop, Ok}
 use Rattle.answer.specs.declared.Answer.{Answer}
 use Rattle.ranking.specs.Ranking.{tested}
-use Rattle.ranking.specs.declared.Tested.TheVariants.{Fine}
 use Rattle.study.specs.Study.{Study}
 use Rattle.lawful.specs.Lawful.{Lawful}
 use Rattle.walks.specs.Walks.{Walks, Met}
@@ -14,7 +13,7 @@ use Rattle.taking.specs.Taking.{TakenGreedily}
 -- so many actions were taken greedily, and stand in the room from 256 on
 pub record Taken (t : Study) (ranks : List ℕ) (total taken : ℕ) (room : List ℕ) : Type 0 where
   pub lawful : Lawful t
-  pub ranked : tested ranks (length t.actions) ≡ Fine
+  pub ranked : tested ranks (length t.actions) ≡ Ok tt
   pub walks : Walks t
   pub met : Met t
   pub list : List ℕ

@@ -1,7 +1,7 @@
 // Takes numbers below 64 one after another, always the least that is ready, each after those that come directly before it.
 #![tactic(auto)]
 
-ghost use Rattle.std.specs.Prelude.{◌≡◌, ◌≤◌, ◌<◌, length};
+ghost use Rattle.std.specs.Prelude.{◌≡◌, ◌≤◌, ◌<◌, length, IfSome, unwrap_or};
 ghost use Rattle.orders.specs.Orders.{Counted};
 ghost use Rattle.hanging.specs.Hanging.{InWord, Only, Hangs, LeastFree, TakenByName};
 
@@ -39,19 +39,20 @@ fn hang_all(some: u64, left: u64, ready: u64, before: &[u64; 64], hung: &mut [u6
     free
 }
 
-// The least of those left that has nothing left before it, or 64.
-fn least_free(left: u64, before: &[u64; 64]) -> u8
-    ensures { LeastFree before.now left result }
+// The least of those left that has nothing left before it.
+fn least_free(left: u64, before: &[u64; 64]) -> Option<u8>
+    ensures room { IfSome result (λ y. y < 64) }
+    ensures least { LeastFree before.now left (unwrap_or result 64) }
 {
     let mut rest = left;
     while rest != 0 {
         let y = bits::lowest(rest);
         if bits::common(before[y as usize], left) == 0 {
-            return y;
+            return Some(y);
         }
         rest = bits::without_bit(rest, y);
     }
-    64
+    None
 }
 
 // Takes them by looking at those that are left, which needs no table.
@@ -61,18 +62,15 @@ pub fn take_looking(members: u64, total: usize, before: &[u64; 64], room: &mut [
     ensures taken_by_name { TakenByName members before.now room.old result room.new }
 {
     let mut left = members;
-    let mut k = 0;
-    while k < total {
-        let y = least_free(left, before);
-        if 64 <= y {
+    for k in 0..total {
+        let Some(y) = least_free(left, before) else {
             return k;
-        }
+        };
         let i = y as usize;
         left = bits::without_bit(left, y);
         room[256 + k] = room[i];
-        k += 1;
     }
-    k
+    total
 }
 
 // Takes them by who hangs on whom.
@@ -84,8 +82,7 @@ fn take_hanging(members: u64, total: usize, before: &[u64; 64], room: &mut [u8; 
     let mut hung = [0u64; 64];
     let mut left = members;
     let mut ready = hang_all(left, left, 0, before, &mut hung);
-    let mut k = 0;
-    while k < total {
+    for k in 0..total {
         if ready == 0 {
             return k;
         }
@@ -93,12 +90,11 @@ fn take_hanging(members: u64, total: usize, before: &[u64; 64], room: &mut [u8; 
         let at = y as usize;
         left = bits::without_bit(left, y);
         room[256 + k] = room[at];
-        k += 1;
         let waiting = hung[at];
         let others = bits::without_bit(ready, y);
         ready = hang_all(waiting, left, others, before, &mut hung);
     }
-    k
+    total
 }
 
 // The room has the members' names below 256, and takes the names of those that are taken from there on. Answers how many

@@ -10,7 +10,7 @@ use lib.Seq.{take-append_seam}
 use Rattle.answer.specs.Answers.{done, refusal}
 use Rattle.answer.specs.declared.Answer.{Answer}
 use Rattle.ranking.specs.Ranking.{tested}
-use Rattle.ranking.specs.declared.Tested.TheVariants.{Fine}
+use Rattle.std.specs.Prelude.{Ok}
 use Rattle.study.specs.Study.{Study}
 use Rattle.study.specs.Reading.{Said, says, refused, reading_for}
 use Rattle.lawful.specs.Lawful.{Lawful}
@@ -26,7 +26,7 @@ use Rattle.journeys.specs.Planned.{Planned, no_plan, the_plan, PlansTo, wrong_le
 
 pub record ThePlan (t : Study) (ranks : List ℕ) (actions : ℕ) (list : List ℕ) : Type 0 where
   pub count : actions ≡ length t.actions
-  pub fine : tested ranks (length t.actions) ≡ Fine
+  pub fine : tested ranks (length t.actions) ≡ Ok tt
   pub first_plan : FirstPlan t ranks list
 
 abbrev pub Sound : Study → List ℕ → Planned → Type 0

@@ -3,22 +3,18 @@
 use mathlib.Core.Path.{◌≡◌, refl, sym, ap, ◌∙◌, subst}
 use mathlib.Core.List.{List, [], ◌∷◌, ◌++◌}
 use Prim.Native.Nat.{ℕ, ◌+◌, ◌*◌, ◌≤◌, ◌<◌}
-use native.Mathlib.Omega.{arith}
-use lib.Dec.{eqb}
-use lib.ListN.{length, take, drop, set, length-replicate, replicate}
+use lib.ListN.{length, take, drop}
 use lib.Seq.{drop-drop}
-use borrow.Author.Tests.{le-leb, lt-leb}
-use Rattle.plain.specs.Choose.{pick}
 use Rattle.answer.specs.Answers.{done, refusal}
 use Rattle.answer.specs.declared.Answer.{Answer}
 use Rattle.study.specs.Study.{Study}
 use Rattle.lawful.specs.Lawful.{Lawful}
-use Rattle.varied.specs.Outcomes.{Outcome, planned, barred, ComesTo, Come}
+use Rattle.varied.specs.Outcomes.{Outcome, planned, ComesTo, Come}
 use Rattle.varied.specs.Figures.{plans_among, different, rows, report_of}
-use Rattle.varied.specs.Report.{WritesReport, Reports}
-use Rattle.varied.proofs.Alike.{AllPlans, plan_then_plans, barred_comes}
+use Rattle.varied.specs.Report.{Reports}
+use Rattle.varied.proofs.Alike.{AllPlans, plan_then_plans}
 use Rattle.varied.proofs.Settled.{come_to_some}
-use Rattle.varied.proofs.Told.{barred_report, plans_report, plans_report_length}
+use Rattle.varied.proofs.Told.{plans_report, plans_report_length}
 use Rattle.heading.proofs.Writing.{writes_all, writes_none}
 use Rattle.keeping.specs.Seeds.{KeptAll, Reported}
 

@@ -1,6 +1,9 @@
 -- What the first seed tells of all, and what is kept and reported of the seeds' plans.
 -- Assumes nothing.
 use Rattle.std.specs.Prelude.{ℕ, ◌+◌, ◌*◌, ◌≤◌, ◌≡◌, List, ◌++◌, length, take, drop}
+use Rattle.std.specs.declared.ops.ControlFlow.{ControlFlow}
+use Rattle.std.specs.declared.ops.ControlFlow.TheVariants.{Break, Continue}
+use Rattle.answer.specs.declared.Answer.{Answer}
 use Rattle.study.specs.Study.{Study}
 use Rattle.draw.specs.Draw.{drawn}
 use Rattle.handing.specs.Handing.{Taken}
@@ -10,8 +13,6 @@ use Rattle.varied.specs.Figures.{plans_among, report_of}
 use Rattle.varied.proofs.Alike.{AllPlans}
 use Rattle.matching.specs.Kept.{Kept}
 use Rattle.keeping.specs.declared.Extent.{Extent}
-use Rattle.keeping.specs.declared.FirstSeed.{FirstSeed}
-use Rattle.keeping.specs.declared.FirstSeed.TheVariants.{Settles, Plans}
 
 -- the seeds are in range, and one to 64
 pub record InRange (first seeds : ℕ) : Type 0 where
@@ -31,9 +32,9 @@ abbrev pub FirstTaken : Study → Extent → List ℕ → Type 0
 FirstTaken t e room = ComesTo t e.first (planned (take e.total (drop 256 room)))
 
 -- what the first seed tells: the answer of all, or its plan, for which the report has room
-abbrev pub Judges : Study → Extent → List ℕ → List ℕ → List ℕ → FirstSeed → Type 0
-Judges t e room before after (Settles answer) = Reports t e.first e.seeds before answer after
-Judges t e room before after (Plans n) = (after ≡ before) × (n ≡ 5 + e.actions * e.total) × (n ≤ length before) × FirstTaken t e room
+abbrev pub Judges : Study → Extent → List ℕ → List ℕ → List ℕ → ControlFlow Answer ℕ → Type 0
+Judges t e room before after (Break answer) = Reports t e.first e.seeds before answer after
+Judges t e room before after (Continue n) = (after ≡ before) × (n ≡ 5 + e.actions * e.total) × (n ≤ length before) × FirstTaken t e room
 
 -- the first k seeds give plans, which are kept
 pub record KeptAll (t : Study) (first k len base stride : ℕ) (region : List ℕ) : Type 0 where

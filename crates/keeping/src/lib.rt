@@ -6,10 +6,8 @@ ghost use Rattle.study.specs.Study.{Study};
 ghost use Rattle.matching.specs.Kept.{RoomFor, Kept};
 ghost use Rattle.keeping.specs.Seeds.{InRange, TakenFirst, Judges};
 
-use answer::Answer;
-
-// The figures before the rows.
-pub const HEAD: usize = 5;
+use answer::{Answer, Rule};
+use std::ops::ControlFlow;
 
 // Which seeds, and how many variables, actions and steps of a plan there are.
 #[derive(Clone, Copy)]
@@ -21,15 +19,9 @@ pub struct Extent {
     pub total: usize,
 }
 
-// What the first seed tells of all: the answer; or that each gives a plan, and how long the report is.
-#[derive(Clone, Copy)]
-pub enum FirstSeed {
-    Settles(Answer),
-    Plans(usize),
-}
-
-// So many walk actions were taken with the first seed.
-pub fn judge_first(taken: usize, e: Extent, report: &mut [u8]) -> FirstSeed
+// So many walk actions were taken with the first seed, which tells of all: it ends with the answer; or each gives a plan, and it
+// goes on with how long the report is.
+pub fn judge_first(taken: usize, e: Extent, report: &mut [u8]) -> ControlFlow<Answer, usize>
     requires { (e.seeds ≤ 64) × (e.actions * e.total ≤ 65536) }
     ensures { (t : Study) (room : List ℕ)
         → InRange e.first e.seeds
@@ -38,13 +30,13 @@ pub fn judge_first(taken: usize, e: Extent, report: &mut [u8]) -> FirstSeed
         → Judges t e room report.old report.new result }
 {
     if taken < e.total {
-        return FirstSeed::Settles(heading::all_refused(12, e.seeds, report));
+        return ControlFlow::Break(heading::all_refused(Rule::Ring, e.seeds, report));
     }
-    let length = HEAD + e.actions * e.total;
+    let length = heading::HEAD + e.actions * e.total;
     if report.len() < length {
-        return FirstSeed::Settles(heading::numbers(13, length));
+        return ControlFlow::Break(Rule::NoRoom.refusal(length as u64));
     }
-    FirstSeed::Plans(length)
+    ControlFlow::Continue(length)
 }
 
 // Keeps what was taken as plan k.

@@ -3,11 +3,11 @@
 use mathlib.Core.Path.{◌≡◌, ◌∙◌}
 use mathlib.Core.Logic.{◌⊎◌, inl, inr, ◌≢◌}
 use mathlib.Core.List.{List}
-use Prim.Native.Nat.{ℕ, ◌+◌, ◌*◌, ◌/◌, ◌%◌, ◌≤◌, ◌<◌}
+use Prim.Native.Nat.{ℕ, ◌+◌, ◌*◌, ◌≤◌, ◌<◌}
 use native.Mathlib.Omega.{arith}
 use native.Mathlib.Decide.{ℕ_discrete}
 use lib.ListN.{get_or}
-use borrow.Author.Tests.{eq-eqb, ne_eqb}
+use Rattle.std.specs.Prelude.{Option, Some, None}
 use Rattle.study.specs.Study.{Study}
 use Rattle.tables.specs.Rows.{Row, var_column, pre_column, place_column, many_column, start_column, OpensAction}
 use Rattle.tables.specs.declared.Act.{Act}
@@ -18,7 +18,7 @@ use Rattle.wanting.proofs.Told.{Told, told}
 use Rattle.ordering.specs.Ordering.{OrderableIn}
 use Rattle.charts.specs.Faults.{Direct, LowerTwo}
 use Rattle.linking.specs.Linking.{Rows, Linked}
-use Rattle.lacking.specs.Lacking.{Lacks, nothing, two, as_one, no_two, as_two_lem, Weighs, OfAction, OfActions}
+use Rattle.lacking.specs.Lacking.{Lacks, nothing, two, as_one, Weighs, OfAction, OfActions}
 use Rattle.lacking.proofs.Weighing.{none_weighed, weighed_as, both_weighed}
 use Rattle.lacking.proofs.Wanted.{Stand}
 use Rattle.lacking.proofs.Directs.{tells_direct, direct_told}
@@ -29,15 +29,15 @@ ToldBy file acts vars setters steps n =
     OfActions file (start_column vars) setters steps (var_column acts) (pre_column acts) (place_column acts) (many_column acts) n
 
 -- where the pass stands
-pub record Underway (file : List ℕ) (a : ℕ) (acts vars : List Row) (setters steps : List ℕ) (rows : Rows) (best i : ℕ) : Type 0 where
+pub record Underway (file : List ℕ) (a : ℕ) (acts vars : List Row) (setters steps : List ℕ) (rows : Rows) (best : Option (ℕ × ℕ)) (i : ℕ) : Type 0 where
   pub some : (t : Study) × OrderableIn file a acts vars setters steps t
   pub few : i ≤ a
   pub small : a ≤ 256
-  pub so_far_lem : Weighs rows (ToldBy file acts vars setters steps i) no_two best
+  pub so_far_lem : Weighs rows (ToldBy file acts vars setters steps i) None best
 
 pub begins :
     {file : List ℕ} {a : ℕ} {acts vars : List Row} {setters steps : List ℕ} {rows : Rows}
-    → (t : Study) × OrderableIn file a acts vars setters steps t → Underway file a acts vars setters steps rows no_two 0
+    → (t : Study) × OrderableIn file a acts vars setters steps t → Underway file a acts vars setters steps rows None 0
 begins some = record {
   some = some;
   few = omega arith;
@@ -46,7 +46,7 @@ begins some = record {
 }
 
 module _
-    {file : List ℕ} {a : ℕ} {acts vars : List Row} {setters steps : List ℕ} {rows : Rows} {best i : ℕ}
+    {file : List ℕ} {a : ℕ} {acts vars : List Row} {setters steps : List ℕ} {rows : Rows} {best : Option (ℕ × ℕ)} {i : ℕ}
     (under : Underway file a acts vars setters steps rows best i) (h : i < a) where
   -- the action's row, opened
   module _ {act : Act} (opens : OpensAction acts i act) {v p : ℕ} (wide-var : v ≡ act.var) (wide-pre : p ≡ act.pre) where
@@ -91,7 +91,7 @@ module _
             go (no n) = (m, omega arith, is, d)
 
     pub goes_on :
-        {r : ℕ} → get_or steps (16 * v + p) 0 ≡ i + 2
+        {r : Option (ℕ × ℕ)} → get_or steps (16 * v + p) 0 ≡ i + 2
         → Weighs rows (OfAction file (start_column vars) setters steps act.var act.pre act.place act.many i) best r
         → Underway file a acts vars setters steps rows r (i + 1)
     goes_on {r} is w = record {
@@ -123,33 +123,29 @@ module _
 
 -- ---- what the least weighed tells
 
-module _ {t : Study} {rows : Rows} {best : ℕ} (low : (i j : ℕ) → Direct t i j → (i < 256) × (j < 256)) (w : Weighs rows (Direct t) no_two best) where
-  least_lacks : Lacks t rows (as_two_lem best)
+module _ {t : Study} {rows : Rows} {best : Option (ℕ × ℕ)} (low : (i j : ℕ) → Direct t i j → (i < 256) × (j < 256)) (w : Weighs rows (Direct t) None best) where
+  least_lacks : Lacks t rows best
   least_lacks = go w.found
     where
-      go : (best ≡ no_two) ⊎ ((x : ℕ) × (y : ℕ) × Direct t x y × (best ≡ as_one x y) × (Linked rows x y → ⊥)) → Lacks t rows (as_two_lem best)
-      go (inl e) = rw (eq-eqb best no_two e) (nothing all)
+      go : (best ≡ None) ⊎ ((x : ℕ) × (y : ℕ) × Direct t x y × (best ≡ Some (x, y)) × (Linked rows x y → ⊥)) → Lacks t rows best
+      go (inl e) = rw e (nothing all)
         where
           all : (i j : ℕ) → Direct t i j → Linked rows i j
-          all i j d = elim (w.rest i j d) [ inl h ↦ h | inr l ↦ absurd (omega (arith, low i j d)) ]
-      go (inr (x, y, d, e, out)) =
-          let (one, other) = low x y d in
-          let first : best / 256 ≡ x = omega arith in
-          let second : best % 256 ≡ y = omega arith in
-          rw (ne_eqb best no_two (omega arith), first, second) (two d out lower)
+          all i j d = elim (w.rest i j d) [ inl h ↦ h | inr l ↦ absurd (omega (arith, low i j d, rw e at l)) ]
+      go (inr (x, y, d, e, out)) = rw e (two d out lower)
         where
           lower : (k l : ℕ) → LowerTwo k l x y → Direct t k l → Linked rows k l
-          lower k l b f = from b (w.rest k l f)
+          lower k l b f = from b (rw e at (w.rest k l f))
             where
-              from : LowerTwo k l x y → Linked rows k l ⊎ (best ≤ as_one k l) → Linked rows k l
+              from : LowerTwo k l x y → Linked rows k l ⊎ (as_one x y ≤ as_one k l) → Linked rows k l
               from b (inl h) = h
               from (inl b) (inr g) = absurd (omega (arith, low k l f))
               from (inr (c, b)) (inr g) = absurd (omega arith)
 
 pub ends :
-    {file : List ℕ} {a : ℕ} {acts vars : List Row} {setters steps : List ℕ} {rows : Rows} {best i : ℕ}
+    {file : List ℕ} {a : ℕ} {acts vars : List Row} {setters steps : List ℕ} {rows : Rows} {best : Option (ℕ × ℕ)} {i : ℕ}
     → Underway file a acts vars setters steps rows best i → a ≤ i
-    → (t : Study) → OrderableIn file a acts vars setters steps t → Met t → Lacks t rows (as_two_lem best)
+    → (t : Study) → OrderableIn file a acts vars setters steps t → Met t → Lacks t rows best
 ends {a = a} {i = i} under h t able met =
     let e : i ≡ a = omega (arith, under.few) in
     least_lacks

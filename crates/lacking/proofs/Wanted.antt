@@ -1,12 +1,13 @@
 -- The conditions of one action, one after another: the orders that each tells are weighed.
 -- Assumes nothing.
-use mathlib.Core.Path.{◌≡◌, ◌∙◌}
+use mathlib.Core.Path.{◌≡◌, refl, ◌∙◌}
 use mathlib.Core.Logic.{◌⊎◌, inl, inr}
 use mathlib.Core.List.{List}
 use Prim.Native.Nat.{ℕ, ◌+◌, ◌*◌, ◌≤◌, ◌<◌}
 use native.Mathlib.Omega.{arith}
 use native.Mathlib.Decide.{ℕ_discrete}
 use lib.ListN.{length, get_or}
+use Rattle.std.specs.Prelude.{Option}
 use Rattle.study.specs.Study.{Condition, Study, condition_at}
 use Rattle.lawful.proofs.Conditions.{conditions_few}
 use Rattle.walks.specs.Walks.{conditions_of}
@@ -24,53 +25,50 @@ Stand file place many steps = (t : Study) × (j : ℕ) × StandAt file place man
 
 -- where the pass stands
 pub record Underway
-    (file : List ℕ) (place many i : ℕ) (starts setters steps : List ℕ) (rows : Rows) (from best at k : ℕ) : Type 0 where
+    (file : List ℕ) (place many i : ℕ) (starts setters steps : List ℕ) (rows : Rows) (from best : Option (ℕ × ℕ)) (k : ℕ) : Type 0 where
   pub some : Stand file place many steps
   pub few : k ≤ many
-  pub is_at : at ≡ place + 3 * k
   pub so_far_lem : Weighs rows (OfConditions file starts setters steps place k i) from best
 
 pub begins :
-    {file : List ℕ} {place many i : ℕ} {starts setters steps : List ℕ} {rows : Rows} {from : ℕ}
-    → Stand file place many steps → Underway file place many i starts setters steps rows from from place 0
+    {file : List ℕ} {place many i : ℕ} {starts setters steps : List ℕ} {rows : Rows} {from : Option (ℕ × ℕ)}
+    → Stand file place many steps → Underway file place many i starts setters steps rows from from 0
 begins some = record {
   some = some;
   few = omega arith;
-  is_at = omega arith;
   so_far_lem = none_weighed (λ x y s. let (k, h, _) = s in omega arith);
 }
 
 module _
-    {file : List ℕ} {place many i : ℕ} {starts setters steps : List ℕ} {rows : Rows} {from best at k : ℕ}
-    (under : Underway file place many i starts setters steps rows from best at k) (h : k < many) where
+    {file : List ℕ} {place many i : ℕ} {starts setters steps : List ℕ} {rows : Rows} {from best : Option (ℕ × ℕ)} {k : ℕ}
+    (under : Underway file place many i starts setters steps rows from best k) (h : k < many) where
   -- a condition that fits the tables stands here
-  pub here : (c : Condition) × Here file at c
-  here = let (t, j, stand, _) = under.some in (condition_at (conditions_of t j) k, stands_here stand at k under.is_at h)
+  pub here : (c : Condition) × Here file (place + 3 * k) c
+  here = let (t, j, stand, _) = under.some in (condition_at (conditions_of t j) k, stands_here stand (place + 3 * k) k refl h)
 
   pub few_conditions : many ≤ 31
   few_conditions =
       let (t, j, stand, _) = under.some in omega (arith, stand.holds.count, conditions_few stand.lawful j stand.there)
 
-  module _ {v q : ℕ} (is_var : v ≡ get_or file (at + 1) 0) (is-value : q ≡ get_or file (at + 2) 0) where
+  module _ {v q : ℕ} (is_var : v ≡ get_or file (place + 3 * k + 1) 0) (is-value : q ≡ get_or file (place + 3 * k + 2) 0) where
     pub in_table_lem : 16 * v + q < 512
     in_table_lem = let (c, w) = here in omega (arith, w.var, w.value, w.low, w.narrow)
 
     pub step_fits : get_or steps (16 * v + q) 0 < 258
     step_fits =
         let (t, j, stand, rowed) = under.some in
-        let w = stands_here stand at k under.is_at h in
+        let w = stands_here stand (place + 3 * k) k refl h in
         rw (is_var ∙ w.var, is-value ∙ w.value)
         (omega (arith, step_low rowed _ _ (condition_there stand k h) w.narrow, stand.lawful.few_actions))
 
     pub goes_on :
-        {start mid next : ℕ} → start ≡ get_or starts v 0
-        → Weighs rows (SetBefore (get_or file (at + 2) 0) start (get_or setters (16 * v + q) 0) i) best mid
+        {start : ℕ} {mid next : Option (ℕ × ℕ)} → start ≡ get_or starts v 0
+        → Weighs rows (SetBefore (get_or file (place + 3 * k + 2) 0) start (get_or setters (16 * v + q) 0) i) best mid
         → Weighs rows (LeftAfter i (get_or steps (16 * v + q) 0)) mid next
-        → Underway file place many i starts setters steps rows from next (at + 3) (k + 1)
+        → Underway file place many i starts setters steps rows from next (k + 1)
     goes_on {start} {mid} {next} is-start set left = record {
       some = under.some;
       few = omega arith;
-      is_at = omega (arith, under.is_at);
       so_far_lem = weighed_as joined parted (both_weighed under.so_far_lem new);
     }
       where
@@ -78,7 +76,7 @@ module _
         Here-told = OfCondition starts setters steps i (get_or file (place + 3 * k + 1) 0) (get_or file (place + 3 * k + 2) 0)
 
         new : Weighs rows Here-told best next
-        new = rw (← under.is_at) (rw (is-start, is_var, is-value) at (both_weighed set left))
+        new = rw (is-start, is_var, is-value) at (both_weighed set left)
 
         joined :
             (x y : ℕ) → OfConditions file starts setters steps place k i x y ⊎ Here-told x y
@@ -96,14 +94,14 @@ module _
             go (no d) = inl (m, omega arith, s)
 
 pub ends :
-    {file : List ℕ} {place many i : ℕ} {starts setters steps : List ℕ} {rows : Rows} {from best at k : ℕ}
-    → Underway file place many i starts setters steps rows from best at k → many ≤ k
+    {file : List ℕ} {place many i : ℕ} {starts setters steps : List ℕ} {rows : Rows} {from best : Option (ℕ × ℕ)} {k : ℕ}
+    → Underway file place many i starts setters steps rows from best k → many ≤ k
     → Weighs rows (OfConditions file starts setters steps place many i) from best
 ends {many = many} {k = k} under h = let e : k ≡ many = omega (arith, under.few) in rw e at under.so_far_lem
 
 -- what the action leaves, and then others, which are its conditions
 pub action_weighed :
-    (starts setters : List ℕ) {var pre i : ℕ} {rows : Rows} {others : ℕ → ℕ → Type 0} {v p start best mid r : ℕ}
+    (starts setters : List ℕ) {var pre i : ℕ} {rows : Rows} {others : ℕ → ℕ → Type 0} {v p start : ℕ} {best mid r : Option (ℕ × ℕ)}
     → v ≡ var → p ≡ pre → start ≡ get_or starts v 0
     → Weighs rows (SetBefore pre start (get_or setters (16 * v + p) 0) i) best mid → Weighs rows others mid r
     → Weighs rows (λ x y. SetBefore pre (get_or starts var 0) (get_or setters (16 * var + pre) 0) i x y ⊎ others x y) best r

@@ -2,30 +2,26 @@
 -- Assumes nothing.
 use mathlib.Core.Path.{◌≡◌, refl, ◌∙◌}
 use mathlib.Core.Logic.{◌⊎◌, inl, inr, ◌≢◌}
-use mathlib.Core.Bool.{false}
-use mathlib.Core.List.{[]}
 use Prim.Native.Nat.{ℕ, ◌+◌, ◌≤◌, ◌<◌}
 use native.Mathlib.Omega.{arith}
-use lib.ListN.{get_or}
-use Rattle.bits.specs.Bits.{within}
-use Rattle.bits.proofs.Members.{not_both}
+use Rattle.std.specs.Prelude.{Option, Some}
 use Rattle.linking.specs.Linking.{Rows, Linked}
-use Rattle.lacking.specs.Lacking.{as_one, Weighs, Just, SetBefore, LeftAfter}
+use Rattle.lacking.specs.Lacking.{as_one, as_number, Weighs, Just, SetBefore, LeftAfter}
 
 abbrev Such : Type 1
 Such = ℕ → ℕ → Type 0
 
 -- the two that were found
-abbrev Found : Rows → Such → ℕ → Type 0
-Found rows such r = (x : ℕ) × (y : ℕ) × such x y × (r ≡ as_one x y) × (Linked rows x y → ⊥)
+abbrev Found : Rows → Such → Option (ℕ × ℕ) → Type 0
+Found rows such r = (x : ℕ) × (y : ℕ) × such x y × (r ≡ Some (x, y)) × (Linked rows x y → ⊥)
 
 module _ {rows : Rows} where
-  pub none_weighed : {such : Such} {best : ℕ} → ((x y : ℕ) → such x y → ⊥) → Weighs rows such best best
+  pub none_weighed : {such : Such} {best : Option (ℕ × ℕ)} → ((x y : ℕ) → such x y → ⊥) → Weighs rows such best best
   none_weighed none = record { lower = omega arith; found = inl refl; rest = λ x y s. absurd (none x y s) }
 
   -- the same said otherwise
   pub weighed_as :
-      {some other : Such} {best r : ℕ} → ((x y : ℕ) → some x y → other x y) → ((x y : ℕ) → other x y → some x y)
+      {some other : Such} {best r : Option (ℕ × ℕ)} → ((x y : ℕ) → some x y → other x y) → ((x y : ℕ) → other x y → some x y)
       → Weighs rows some best r → Weighs rows other best r
   weighed_as {some} {other} {best} {r} there back w = record {
     lower = w.lower;
@@ -39,7 +35,7 @@ module _ {rows : Rows} where
 
   -- some, then others
   pub both_weighed :
-      {some other : Such} {best mid r : ℕ} → Weighs rows some best mid → Weighs rows other mid r
+      {some other : Such} {best mid r : Option (ℕ × ℕ)} → Weighs rows some best mid → Weighs rows other mid r
       → Weighs rows (λ x y. some x y ⊎ other x y) best r
   both_weighed {some} {other} {best} {mid} {r} w v = record {
     lower = omega (arith, w.lower, v.lower);
@@ -58,35 +54,21 @@ module _ {rows : Rows} where
       go f (inl e) = first e f
       go f (inr (x, y, s, e, out)) = inr (x, y, inr s, e, out)
 
-      rest : (x y : ℕ) → Both x y → Linked rows x y ⊎ (r ≤ as_one x y)
+      rest : (x y : ℕ) → Both x y → Linked rows x y ⊎ (as_number r ≤ as_one x y)
       rest x y (inl s) = elim (w.rest x y s) [ inl h ↦ inl h | inr l ↦ inr (omega (arith, v.lower)) ]
       rest x y (inr s) = v.rest x y s
 
   -- ---- one
 
-  module _ {best x y : ℕ} where
-    pub not_lower : best ≤ as_one x y → Weighs rows (Just x y) best best
-    not_lower h = record { lower = omega arith; found = inl refl; rest = λ a b s. inr (omega (arith, s.0, s.1)) }
-
-    pub in_row : Linked rows x y → Weighs rows (Just x y) best best
-    in_row h = record { lower = omega arith; found = inl refl; rest = λ a b s. inl (rw (s.0, s.1) h) }
-
-    pub lower_found : as_one x y < best → within (get_or rows x []) y ≡ false → Weighs rows (Just x y) best (as_one x y)
-    lower_found h out = record {
-      lower = omega arith;
-      found = inr (x, y, (refl, refl), refl, λ i. not_both i out);
-      rest = λ a b s. inr (omega (arith, s.0, s.1));
-    }
-
-  pub start_passed : {best q start setter i : ℕ} → q ≡ start → Weighs rows (SetBefore q start setter i) best best
+  pub start_passed : {best : Option (ℕ × ℕ)} {q start setter i : ℕ} → q ≡ start → Weighs rows (SetBefore q start setter i) best best
   start_passed e = none_weighed (λ x y s. s.0 e)
 
   pub setter_weighed :
-      {best q start setter i r : ℕ} → q ≢ start → Weighs rows (Just setter i) best r → Weighs rows (SetBefore q start setter i) best r
+      {best r : Option (ℕ × ℕ)} {q start setter i : ℕ} → q ≢ start → Weighs rows (Just setter i) best r → Weighs rows (SetBefore q start setter i) best r
   setter_weighed away = weighed_as (λ x y s. (away, s)) (λ x y s. s.1)
 
-  pub end_passed : {best i step : ℕ} → step < 2 → Weighs rows (LeftAfter i step) best best
+  pub end_passed : {best : Option (ℕ × ℕ)} {i step : ℕ} → step < 2 → Weighs rows (LeftAfter i step) best best
   end_passed h = none_weighed (λ x y s. omega (arith, s.1))
 
-  pub leaver_weighed : {best i step l r : ℕ} → step ≡ l + 2 → Weighs rows (Just i l) best r → Weighs rows (LeftAfter i step) best r
+  pub leaver_weighed : {best r : Option (ℕ × ℕ)} {i step l : ℕ} → step ≡ l + 2 → Weighs rows (Just i l) best r → Weighs rows (LeftAfter i step) best r
   leaver_weighed is = weighed_as (λ x y s. (s.0, omega (arith, s.1))) (λ x y s. (s.0, omega (arith, s.1)))

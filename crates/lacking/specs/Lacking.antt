@@ -1,22 +1,19 @@
 -- The direct orders that loaded tables tell, as numbers of two actions, and the lowest that is not in rows of bits.
 -- Assumes nothing.
-use Rattle.std.specs.Prelude.{ℕ, ◌+◌, ◌*◌, ◌/◌, ◌%◌, ◌≤◌, ◌<◌, ◌≡◌, ◌⊎◌, ◌≢◌, List, eqb, get_or}
-use Rattle.plain.specs.Choose.{pick}
+use Rattle.std.specs.Prelude.{ℕ, ◌+◌, ◌*◌, ◌≤◌, ◌<◌, ◌≡◌, ◌⊎◌, ◌≢◌, Option, Some, None, List, get_or}
 use Rattle.study.specs.Study.{Study}
 use Rattle.linking.specs.Linking.{Rows, Linked}
 use Rattle.charts.specs.Faults.{Direct, LowerTwo}
-use Rattle.lacking.specs.declared.Lack.{Lack}
-use Rattle.lacking.specs.declared.Lack.TheVariants.{Nothing, Two}
 
 -- all that are such are linked; or the lowest two that are not
-pub data LacksOf (such linked : ℕ → ℕ → Type 0) : Lack → Type 0 where
-  nothing : ((i j : ℕ) → such i j → linked i j) → LacksOf such linked Nothing
+pub data LacksOf (such linked : ℕ → ℕ → Type 0) : Option (ℕ × ℕ) → Type 0 where
+  nothing : ((i j : ℕ) → such i j → linked i j) → LacksOf such linked None
   two :
       {i j : ℕ} → such i j → (linked i j → ⊥) → ((k l : ℕ) → LowerTwo k l i j → such k l → linked k l)
-      → LacksOf such linked (Two i j)
+      → LacksOf such linked (Some (i, j))
 
 -- 28: every direct order is in the rows; or the lowest that is not
-abbrev pub Lacks : Study → Rows → Lack → Type 0
+abbrev pub Lacks : Study → Rows → Option (ℕ × ℕ) → Type 0
 Lacks t rows = LacksOf (Direct t) (Linked rows)
 
 -- ---- two actions as one number
@@ -28,14 +25,15 @@ as_one x y = 256 * x + y
 abbrev pub no_two : ℕ
 no_two = 65536
 
-abbrev pub as_two_lem : ℕ → Lack
-as_two_lem n = pick (eqb n no_two) Nothing (Two (n / 256) (n % 256))
+abbrev pub as_number : Option (ℕ × ℕ) → ℕ
+as_number None = no_two
+as_number (Some (x, y)) = as_one x y
 
 -- the least of those that are such and are not in the rows, if it is below `best`
-pub record Weighs (rows : Rows) (such : ℕ → ℕ → Type 0) (best r : ℕ) : Type 0 where
-  pub lower : r ≤ best
-  pub found : (r ≡ best) ⊎ ((x : ℕ) × (y : ℕ) × such x y × (r ≡ as_one x y) × (Linked rows x y → ⊥))
-  pub rest : (x y : ℕ) → such x y → Linked rows x y ⊎ (r ≤ as_one x y)
+pub record Weighs (rows : Rows) (such : ℕ → ℕ → Type 0) (best r : Option (ℕ × ℕ)) : Type 0 where
+  pub lower : as_number r ≤ as_number best
+  pub found : (r ≡ best) ⊎ ((x : ℕ) × (y : ℕ) × such x y × (r ≡ Some (x, y)) × (Linked rows x y → ⊥))
+  pub rest : (x y : ℕ) → such x y → Linked rows x y ⊎ (as_number r ≤ as_one x y)
 
 -- ---- what the tables tell
 

@@ -8,36 +8,30 @@ ghost use Rattle.tables.specs.Rows.{start_column};
 ghost use Rattle.tracing.specs.Steps.{Rowed};
 ghost use Rattle.wanting.specs.Wanting.{StandAt};
 ghost use Rattle.ordering.specs.Ordering.{OrderableIn};
-ghost use Rattle.lacking.specs.Lacking.{Lacks, no_two, as_two_lem, Weighs, Just, SetBefore, LeftAfter, OfConditions, OfAction};
+ghost use Rattle.lacking.specs.Lacking.{Lacks, Weighs, Just, SetBefore, LeftAfter, OfConditions, OfAction};
 
 use tables::Act;
 
-// No direct order lacks; or the lowest that does.
-#[derive(Clone, Copy)]
-pub enum Lack {
-    Nothing,
-    Two { first: u8, second: u8 },
-}
-
-// More than any two actions as one number.
-const NO_TWO: u32 = 65536;
-
-// The two as one number, if that is lower and the second is not in the first's row.
-fn weighed(best: u32, x: u8, y: u8, rows: &[[u64; 4]; 256]) -> u32
+// The two, if they are lower and the second is not in the first's row.
+fn weighed(best: Option<(u8, u8)>, x: u8, y: u8, rows: &[[u64; 4]; 256]) -> Option<(u8, u8)>
     ensures { Weighs rows.now (Just x y) best result }
 {
-    let two = 256 * (x as u32) + (y as u32);
-    if best <= two {
-        return best;
+    match best {
+        Some(two) if two <= (x, y) => best,
+        _ if bits::contains(&rows[tables::wide(x)], y) => best,
+        _ => Some((x, y)),
     }
-    if bits::contains(&rows[tables::wide(x)], y) {
-        return best;
-    }
-    two
 }
 
 // Weighs the action that sets a value against one that needs it, unless the value is the start.
-fn weigh_setter(best: u32, q: u8, start: u8, setter: u8, i: u8, rows: &[[u64; 4]; 256]) -> u32
+fn weigh_setter(
+    best: Option<(u8, u8)>,
+    q: u8,
+    start: u8,
+    setter: u8,
+    i: u8,
+    rows: &[[u64; 4]; 256],
+) -> Option<(u8, u8)>
     ensures { Weighs rows.now (SetBefore q start setter i) best result }
 {
     if q == start {
@@ -48,7 +42,12 @@ fn weigh_setter(best: u32, q: u8, start: u8, setter: u8, i: u8, rows: &[[u64; 4]
 
 // Weighs one that needs a value against the action that leaves it, if the step names one.
 #[tactic(auto, using(crate::proofs::Weighing::leaver_weighed, crate::proofs::Weighing::end_passed))]
-fn weigh_leaver(best: u32, i: u8, step: u16, rows: &[[u64; 4]; 256]) -> u32
+fn weigh_leaver(
+    best: Option<(u8, u8)>,
+    i: u8,
+    step: u16,
+    rows: &[[u64; 4]; 256],
+) -> Option<(u8, u8)>
     requires { step < 258 }
     ensures { Weighs rows.now (LeftAfter i step) best result }
 {
@@ -63,30 +62,26 @@ fn weigh_wanted(
     file: &[u8],
     act: Act,
     i: u8,
-    from: u32,
+    from: Option<(u8, u8)>,
     vars: &[[u8; 3]; 32],
     setters: &[u8; 512],
     steps: &[u16; 512],
     rows: &[[u64; 4]; 256],
-) -> u32
+) -> Option<(u8, u8)>
     requires { (t : Study) × (j : ℕ) × StandAt file.now act.place act.many t j × Rowed t (length t.tasks) steps.now }
     ensures { Weighs rows.now
         (OfConditions file.now (start_column vars.now) setters.now steps.now
         act.place act.many i) from result }
 {
-    let many = act.many;
     let mut best = from;
-    let mut at = act.place;
-    let mut k = 0;
-    while k < many {
+    for k in 0..act.many {
+        let at = act.place + 3 * (k as usize);
         let q = file[at + 2];
         let v = tables::wide(file[at + 1]);
         let j = 16 * v + tables::wide(q);
         let var = tables::variable_at(vars, v);
         let set = weigh_setter(best, q, var.start, setters[j], i, rows);
         best = weigh_leaver(set, i, steps[j], rows);
-        at += 3;
-        k += 1;
     }
     best
 }
@@ -96,12 +91,12 @@ fn weigh_action(
     file: &[u8],
     act: Act,
     i: u8,
-    best: u32,
+    best: Option<(u8, u8)>,
     vars: &[[u8; 3]; 32],
     setters: &[u8; 512],
     steps: &[u16; 512],
     rows: &[[u64; 4]; 256],
-) -> u32
+) -> Option<(u8, u8)>
     requires { (act.var < 32) × (act.pre < 16)
         × ((t : Study) × (j : ℕ) × StandAt file.now act.place act.many t j × Rowed t (length t.tasks) steps.now) }
     ensures { Weighs rows.now
@@ -115,19 +110,6 @@ fn weigh_action(
     weigh_wanted(file, act, i, set, vars, setters, steps, rows)
 }
 
-fn as_two(best: u32) -> Lack
-    requires { best ≤ no_two }
-    ensures { result ≡ as_two_lem best }
-{
-    if best == NO_TWO {
-        return Lack::Nothing;
-    }
-    Lack::Two {
-        first: (best / 256) as u8,
-        second: (best % 256) as u8,
-    }
-}
-
 // Every walk action has its conditions on walks. Those that their step names are the walk actions.
 pub fn lowest(
     file: &[u8],
@@ -137,22 +119,20 @@ pub fn lowest(
     setters: &[u8; 512],
     steps: &[u16; 512],
     rows: &[[u64; 4]; 256],
-) -> Lack
+) -> Option<(u8, u8)>
     requires { (t : Study) × OrderableIn file.now actions acts.now vars.now setters.now steps.now t }
     ensures { (t : Study)
         → OrderableIn file.now actions acts.now vars.now setters.now steps.now t
         → Met t
         → Lacks t rows.now result }
 {
-    let mut best = NO_TWO;
-    let mut i = 0;
-    while i < actions {
+    let mut best = None;
+    for i in 0..actions {
         let act = tables::action_at(acts, i);
         let j = 16 * tables::wide(act.var) + tables::wide(act.pre);
         if steps[j] == (i + 2) as u16 {
             best = weigh_action(file, act, i as u8, best, vars, setters, steps, rows);
         }
-        i += 1;
     }
-    as_two(best)
+    best
 }

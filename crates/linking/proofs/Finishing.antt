@@ -12,8 +12,8 @@ use Rattle.bits.specs.Bits.{within, Added}
 use Rattle.bits.proofs.Members.{not_both, none_beyond, added_there, added_keeps, added_only}
 use Rattle.orders.specs.Orders.{Chain, one, more, OnRing}
 use Rattle.orders.proofs.Rings.{chain_before}
+use Rattle.std.specs.Prelude.{Ok}
 use Rattle.linking.specs.Linking.{Rows, Linked, Shaped, Anyone, Closes, chains}
-use Rattle.linking.specs.declared.Closed.TheVariants.{Chains}
 use Rattle.linking.specs.Passing.{Gathers, Partly}
 use Rattle.linking.proofs.Sets.{told}
 
@@ -120,7 +120,7 @@ module _ {before rows rows' : Rows} {done done' : List ℕ} {x : ℕ} (partly : 
 
 pub all_closed :
     {before after : Rows} {done : List ℕ} → Partly before after done → ((x y : ℕ) → Linked before x y → within done x ≡ true)
-    → Closes before after Chains
+    → Closes before after (Ok tt)
 all_closed {before} {after} {done} partly all =
     chains (λ x c. partly.no_ring x (starts x x c) c)
     (λ x y. (there x y (told (within done x)), λ c. partly.full x y (starts x y c) c))

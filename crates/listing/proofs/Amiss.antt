@@ -4,7 +4,7 @@ use mathlib.Core.Path.{◌≡◌, refl, sym, ◌∙◌}
 use mathlib.Core.Logic.{◌↔◌}
 use mathlib.Core.Bool.{Bool, true, false, ◌||◌, true≢false}
 use mathlib.Core.List.{List}
-use Prim.Native.Nat.{ℕ, ◌≤◌, ◌<◌}
+use Prim.Native.Nat.{ℕ, ◌<◌}
 use native.Mathlib.Omega.{arith}
 use native.Mathlib.Decide.{dec_lt}
 use lib.ListN.{length}
@@ -15,7 +15,7 @@ use Rattle.orders.specs.Orders.{In}
 use Rattle.study.specs.Study.{Study}
 use Rattle.walks.specs.Walks.{OnAWalk}
 use Rattle.charts.specs.Faults.{Amiss, repeats, missing, on_no_walk}
-use Rattle.listing.specs.Listing.{unlike, SetOf, FindsAmiss}
+use Rattle.listing.specs.Listing.{unlike, HasJust, DifferingBy, Least, FindsAmiss}
 use Rattle.listing.proofs.Gathering.{counted_in}
 
 -- tests of what is in a list, of what repeats in it, of the walk actions, and of what is amiss
@@ -27,12 +27,6 @@ pub record Compared (t : Study) (list : List ℕ) (listed twice walking amiss : 
   pub walks : (i : ℕ) → (walking i ≡ true) ↔ OnAWalk t i
   pub differ : (i : ℕ) → i < 256 → amiss i ≡ (unlike (listed i) (walking i) || twice i)
 
--- r is the least number that a test tells, or 256
-pub record Least (told : ℕ → Bool) (r : ℕ) : Type 0 where
-  pub most : r ≤ 256
-  pub there : r < 256 → told r ≡ true
-  pub none_below : (i : ℕ) → i < r → told i ≡ false
-
 pub member_low : (words : List ℕ) → length words ≡ 4 → (i : ℕ) → within words i ≡ true → i < 256
 member_low words four i w = go (dec_lt i 256)
   where
@@ -42,11 +36,10 @@ member_low words four i w = go (dec_lt i 256)
 
 -- where nobody is in just one of two sets, both have the numbers of one list
 pub same_set :
-    (list listed members : List ℕ) (twice amiss : ℕ → Bool) → length listed ≡ 4 → length members ≡ 4
-    → ((i : ℕ) → i < 256 → amiss i ≡ (unlike (within listed i) (within members i) || twice i)) → ((i : ℕ) → i < 256 → amiss i ≡ false)
-    → SetOf list listed → SetOf list members
-same_set list listed members twice amiss long four differ none set i =
-    (λ w. (set i).0 (same (member_low members four i w) ∙ w), λ m. sym (same (member_low listed long i ((set i).1 m))) ∙ (set i).1 m)
+    (list : List ℕ) (listed members twice amiss : ℕ → Bool) → ((i : ℕ) → listed i ≡ true → i < 256) → ((i : ℕ) → members i ≡ true → i < 256)
+    → DifferingBy listed members twice amiss → ((i : ℕ) → i < 256 → amiss i ≡ false) → HasJust list listed → HasJust list members
+same_set list listed members twice amiss low few differ none set i =
+    (λ w. (set i).0 (same (few i w) ∙ w), λ m. sym (same (low i ((set i).1 m))) ∙ (set i).1 m)
   where
     alike : (a b d : Bool) → (unlike a b || d) ≡ false → a ≡ b
     alike true true d w = refl
@@ -54,8 +47,8 @@ same_set list listed members twice amiss long four differ none set i =
     alike true false d w = absurd (true≢false w)
     alike false true d w = absurd (true≢false w)
 
-    same : i < 256 → within listed i ≡ within members i
-    same h = alike (within listed i) (within members i) (twice i) (sym (differ i h) ∙ none i h)
+    same : i < 256 → listed i ≡ members i
+    same h = alike (listed i) (members i) (twice i) (sym (differ i h) ∙ none i h)
 
 module _ {t : Study} {list : List ℕ} {listed twice walking amiss : ℕ → Bool} (c : Compared t list listed twice walking amiss) where
   amiss_low : (i : ℕ) → Amiss t list i → i < 256

@@ -1,10 +1,10 @@
--- The set of a list's numbers and the set of those that stand in it twice, by its first entries, one more in each turn: for any tests, and for sets of four words.
+-- Tests of a list's numbers and of those that stand in it twice, by its first entries, one more in each turn.
 -- Assumes nothing.
-use mathlib.Core.Path.{◌≡◌, refl, sym, ap, ◌∙◌}
+use mathlib.Core.Path.{◌≡◌, sym, ap, ◌∙◌}
 use mathlib.Core.Logic.{inl, inr, ◌↔◌}
 use mathlib.Core.Bool.{Bool, true, false, ◌||◌}
 use mathlib.Core.List.{List, [], ◌∷◌}
-use Prim.Native.Nat.{ℕ, zero, suc, ◌+◌, ◌≤◌, ◌<◌}
+use Prim.Native.Nat.{ℕ, ◌+◌, ◌≤◌, ◌<◌}
 use native.Mathlib.Numerals.{add-one}
 use native.Mathlib.Omega.{arith}
 use native.Mathlib.Decide.{ℕ_discrete}
@@ -12,11 +12,9 @@ use lib.Dec.{eqb, ltb}
 use lib.ListN.{length, get_or, take}
 use lib.Seq.{take-suc, take-length}
 use borrow.Author.Tests.{eq-eqb, ne_eqb, lt-ltb, le-ltb, ltb-true, ltb-false}
-use Rattle.bits.specs.Bits.{within, Added}
 use Rattle.ranks.specs.Ranks.{one, count}
 use Rattle.ranks.proofs.Laws.{count-append}
 use Rattle.orders.specs.Orders.{In}
-use Rattle.listing.specs.Listing.{Empty, SetOf, RepeatsOf}
 
 -- ---- how often, and whether at all
 
@@ -118,26 +116,3 @@ all_by {list} {set} {twice} {k} g h = (
 
     repeated : (i : ℕ) → twice i ≡ ltb 1 (count i list)
     repeated i = rw (e, take-length) at (g.repeated i)
-
--- ---- sets of four words
-
-pub record GatheredSoFar (list set twice : List ℕ) (k : ℕ) : Type 0 where
-  pub long : length set ≡ 4
-  pub long_twice : length twice ≡ 4
-  pub by : GatheredBy list (within set) (within twice) k
-
-pub none_gathered : {list set twice : List ℕ} → length set ≡ 4 → length twice ≡ 4 → Empty set → Empty twice → GatheredSoFar list set twice 0
-none_gathered long long_twice empty none = record { long = long; long_twice = long_twice; by = none_by empty none }
-
-module _ {list set twice : List ℕ} {k : ℕ} (g : GatheredSoFar list set twice k) (h : k < length list) where
-  pub again_gathered :
-      {set' twice' : List ℕ} → within set (get_or list k 0) ≡ true → Added (get_or list k 0) set set' → Added (get_or list k 0) twice twice'
-      → GatheredSoFar list set' twice' (k + 1)
-  again_gathered was added put = record { long = added.long; long_twice = put.long; by = again_by g.by h was added.members put.members }
-
-  pub new_gathered :
-      {set' : List ℕ} → within set (get_or list k 0) ≡ false → Added (get_or list k 0) set set' → GatheredSoFar list set' twice (k + 1)
-  new_gathered was added = record { long = added.long; long_twice = g.long_twice; by = new_by g.by h was added.members }
-
-pub all_gathered : {list set twice : List ℕ} {k : ℕ} → GatheredSoFar list set twice k → length list ≤ k → SetOf list set × RepeatsOf list twice
-all_gathered g h = all_by g.by h

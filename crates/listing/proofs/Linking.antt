@@ -4,7 +4,7 @@ use mathlib.Core.Path.{◌≡◌, refl, sym, ◌∙◌}
 use mathlib.Core.Logic.{◌⊎◌, inl, inr, ◌≢◌, ◌↔◌}
 use mathlib.Core.Bool.{Bool, true, false, not, true≢false}
 use mathlib.Core.List.{List, [], ◌∷◌, ◌++◌}
-use Prim.Native.Nat.{ℕ, ◌+◌, ◌*◌, ◌≤◌, ◌<◌}
+use Prim.Native.Nat.{ℕ, ◌+◌, ◌*◌, ◌/◌, ◌<◌}
 use native.Mathlib.Numerals.{add-one}
 use native.Mathlib.Omega.{arith}
 use native.Mathlib.Decide.{ℕ_discrete}
@@ -76,30 +76,26 @@ linked_more ps {linked} {linked'} x y is more a b = (λ l. there ((more a b).0 l
 
 -- ---- where the pass stands
 
-pub record PassedTo (bytes : List ℕ) (holds : List ℕ → Type 0) (linked : ℕ → ℕ → Type 0) (at k : ℕ) : Type 0 where
-  pub is_at : at ≡ 2 * k
-  pub fits : at ≤ length bytes
+pub record PassedTo (bytes : List ℕ) (holds : List ℕ → Type 0) (linked : ℕ → ℕ → Type 0) (k : ℕ) : Type 0 where
   pub fine : (list : List ℕ) → holds list → (j : ℕ) → j < k → Astray list (pair_at (pairs_of bytes) j) → ⊥
   pub by_pairs : LinkedBy (take k (pairs_of bytes)) linked
 
-pub none_passed : {bytes : List ℕ} {holds : List ℕ → Type 0} {linked : ℕ → ℕ → Type 0} → ((x y : ℕ) → linked x y → ⊥) → PassedTo bytes holds linked 0 0
+pub none_passed : {bytes : List ℕ} {holds : List ℕ → Type 0} {linked : ℕ → ℕ → Type 0} → ((x y : ℕ) → linked x y → ⊥) → PassedTo bytes holds linked 0
 none_passed none = record {
-  is_at = omega arith;
-  fits = omega arith;
   fine = λ list is j h. absurd (omega arith);
   by_pairs = λ x y. (λ l. absurd (none x y l), λ p. absurd p);
 }
 
-module _ {bytes : List ℕ} {holds : List ℕ → Type 0} {linked : ℕ → ℕ → Type 0} {at k : ℕ} (under : PassedTo bytes holds linked at k) where
-  module _ (h : at + 1 < length bytes) where
+module _ {bytes : List ℕ} {holds : List ℕ → Type 0} {linked : ℕ → ℕ → Type 0} {k : ℕ} (under : PassedTo bytes holds linked k) where
+  module _ (h : k < length bytes / 2) where
     there : k < length (pairs_of bytes)
-    there = omega (arith, length_pairs bytes, under.is_at)
+    there = omega (arith, length_pairs bytes)
 
-    here : pair_at (pairs_of bytes) k ≡ pair (get_or bytes at 0) (get_or bytes (at + 1) 0)
-    here = pair_at_lem bytes k at under.is_at h
+    here : pair_at (pairs_of bytes) k ≡ pair (get_or bytes (2 * k) 0) (get_or bytes (2 * k + 1) 0)
+    here = pair_at_lem bytes k (2 * k) refl (omega arith)
 
     pub breaks_off :
-        ((list : List ℕ) → holds list → TellsStray list (pair (get_or bytes at 0) (get_or bytes (at + 1) 0)) true)
+        ((list : List ℕ) → holds list → TellsStray list (pair (get_or bytes (2 * k) 0) (get_or bytes (2 * k + 1) 0)) true)
         → (list : List ℕ) → holds list → LinksTo list (pairs_of bytes) linked k
     breaks_off stray list is = record {
       most = omega (arith, there);
@@ -110,26 +106,25 @@ module _ {bytes : List ℕ} {holds : List ℕ → Type 0} {linked : ℕ → ℕ 
 
     pub goes_on :
         {linked' : ℕ → ℕ → Type 0}
-        → ((list : List ℕ) → holds list → TellsStray list (pair (get_or bytes at 0) (get_or bytes (at + 1) 0)) false)
-        → OneMore (get_or bytes at 0) (get_or bytes (at + 1) 0) linked linked'
-        → PassedTo bytes holds linked' (at + 2) (k + 1)
+        → ((list : List ℕ) → holds list → TellsStray list (pair (get_or bytes (2 * k) 0) (get_or bytes (2 * k + 1) 0)) false)
+        → OneMore (get_or bytes (2 * k) 0) (get_or bytes (2 * k + 1) 0) linked linked'
+        → PassedTo bytes holds linked' (k + 1)
     goes_on fine more = record {
-      is_at = omega (arith, under.is_at);
-      fits = omega arith;
       fine =
           λ list is. below_more (λ j. Astray list (pair_at (pairs_of bytes) j) → ⊥) k (under.fine list is)
           (rw here ((fine list is).fine refl));
       by_pairs =
           rw (add-one k, take-suc (pairs_of bytes) k (pair 0 0) there, here)
-          (linked_more (take k (pairs_of bytes)) (get_or bytes at 0) (get_or bytes (at + 1) 0) under.by_pairs more);
+          (linked_more (take k (pairs_of bytes)) (get_or bytes (2 * k) 0) (get_or bytes (2 * k + 1) 0) under.by_pairs more);
     }
 
-  pub ends : length bytes ≤ at + 1 → (list : List ℕ) → holds list → LinksTo list (pairs_of bytes) linked k
-  ends h list is = go (ℕ_discrete at (length bytes))
+  -- all whole pairs are passed, and a last byte may stand alone
+  pub ends : k ≡ length bytes / 2 → (list : List ℕ) → holds list → LinksTo list (pairs_of bytes) linked k
+  ends h list is = go (ℕ_discrete (2 * k) (length bytes))
     where
-      go : Dec (at ≡ length bytes) → LinksTo list (pairs_of bytes) linked k
+      go : Dec (2 * k ≡ length bytes) → LinksTo list (pairs_of bytes) linked k
       go (yes e) =
-          let all : k ≡ length (pairs_of bytes) = omega (arith, length_pairs bytes, under.is_at) in
+          let all : k ≡ length (pairs_of bytes) = omega (arith, length_pairs bytes) in
           record {
             most = omega arith;
             first = λ l. absurd (omega arith);
@@ -137,13 +132,13 @@ module _ {bytes : List ℕ} {holds : List ℕ → Type 0} {linked : ℕ → ℕ 
             by_pairs = λ _. rw (all, take-length) at under.by_pairs;
           }
       go (no d) =
-          let lone : at + 1 ≡ length bytes = omega (arith, under.fits) in
-          let there : k < length (pairs_of bytes) = omega (arith, length_pairs bytes, under.is_at) in
+          let lone : 2 * k + 1 ≡ length bytes = omega arith in
+          let there : k < length (pairs_of bytes) = omega (arith, length_pairs bytes) in
           record {
             most = omega arith;
             first = λ _. record {
               there = there;
-              astray = rw (lone_pair bytes k at under.is_at lone) (itself refl);
+              astray = rw (lone_pair bytes k (2 * k) refl lone) (itself refl);
               before = under.fine list is;
             };
             none = λ e. absurd (omega arith);

@@ -1,6 +1,6 @@
 -- Entries that may be used, as the tables tell it, and the first that may not.
 -- Assumes nothing.
-use mathlib.Core.Path.{◌≡◌, refl, sym, ◌∙◌}
+use mathlib.Core.Path.{◌≡◌, sym, ◌∙◌}
 use mathlib.Core.Bool.{true, false, true≢false}
 use mathlib.Core.List.{List}
 use Prim.Native.Nat.{ℕ, ◌+◌, ◌≤◌, ◌<◌}
@@ -11,7 +11,6 @@ use borrow.Author.Count.{below_more}
 use Rattle.study.specs.Study.{Study}
 use Rattle.plans.specs.Plans.{Usable}
 use Rattle.tracing.specs.Facts.{TellsForce}
-use Rattle.charts.specs.Faults.{FirstUnusable}
 use Rattle.listing.specs.Listing.{FindsUnusable}
 
 -- the first k entries may be used

@@ -2,7 +2,6 @@
 -- Assumes nothing.
 use Rattle.std.specs.Prelude.{ℕ, ◌≤◌, ◌<◌, ◌≡◌, ◌↔◌, Bool, true, false, not, ◌&&◌, ◌||◌, List, [], length, get_or}
 use Rattle.bits.specs.Bits.{within}
-use Rattle.ranks.specs.Ranks.{count}
 use Rattle.orders.specs.Orders.{In}
 use Rattle.linking.specs.Linking.{Rows, Linked}
 use Rattle.study.specs.Study.{Study}
@@ -21,25 +20,35 @@ pub record FindsUnusable (t : Study) (list : List ℕ) (r : ℕ) : Type 0 where
 abbrev pub Empty : List ℕ → Type 0
 Empty set = (i : ℕ) → within set i ≡ false
 
--- the set has just the numbers that the list has
+-- a test tells just the numbers that the list has
+abbrev pub HasJust : List ℕ → (ℕ → Bool) → Type 0
+HasJust list has = (i : ℕ) → (has i ≡ true) ↔ In i list
+
+-- the set has just those
 abbrev pub SetOf : List ℕ → List ℕ → Type 0
-SetOf list set = (i : ℕ) → (within set i ≡ true) ↔ In i list
+SetOf list set = HasJust list (within set)
 
 -- .. just the walk actions
 abbrev pub SetOfWalks : Study → List ℕ → Type 0
 SetOfWalks t set = (i : ℕ) → (within set i ≡ true) ↔ OnAWalk t i
 
--- .. just those that stand in the list twice or more
-abbrev pub RepeatsOf : List ℕ → List ℕ → Type 0
-RepeatsOf list set = (i : ℕ) → (within set i ≡ true) ↔ (1 < count i list)
-
 -- just one of two tests holds
 abbrev pub unlike : Bool → Bool → Bool
 unlike a b = (not a && b) || (not b && a)
 
+-- a test tells what just one of two tests tells, besides what it told
+abbrev pub DifferingBy : (one other before after : ℕ → Bool) → Type 0
+DifferingBy one other before after = (i : ℕ) → i < 256 → after i ≡ (unlike (one i) (other i) || before i)
+
 -- the set has what is in just one of two sets, besides what it had
 abbrev pub Differing : (one other before after : List ℕ) → Type 0
-Differing one other before after = (i : ℕ) → i < 256 → within after i ≡ (unlike (within one i) (within other i) || within before i)
+Differing one other before after = DifferingBy (within one) (within other) (within before) (within after)
+
+-- r is the least number that a test tells, or 256
+pub record Least (told : ℕ → Bool) (r : ℕ) : Type 0 where
+  pub most : r ≤ 256
+  pub there : r < 256 → told r ≡ true
+  pub none_below : (i : ℕ) → i < r → told i ≡ false
 
 -- 25: the lowest action that is amiss, or 256
 pub record FindsAmiss (t : Study) (list : List ℕ) (r : ℕ) : Type 0 where

@@ -9,30 +9,50 @@ ghost use Rattle.tables.specs.Tables.{Sized, Reads};
 ghost use Rattle.tables.specs.Rows.{count_column, seen_all};
 ghost use Rattle.standing.specs.Reads.{Safe};
 ghost use Rattle.standing.specs.Halfway.{Halfway};
-ghost use Rattle.loader.specs.Told.{told_by};
+ghost use Rattle.loader.specs.Told.{roster_of, Named, ToldBy};
 
 use advancing::{Progress, Step};
+use answer::{Refusal, Rule};
 use judging::order;
 use tables::Read;
 
 const END: u8 = 6;
 
+// The rule of a number by which a file is refused.
+fn rule_of(number: u8) -> Rule
+    ensures { Named number result }
+{
+    match number {
+        1 => Rule::Cut,
+        2 => Rule::NoKind,
+        3 => Rule::OutOfOrder,
+        4 => Rule::TooMany,
+        5 => Rule::OutOfRange,
+        6 => Rule::Improper,
+        7 => Rule::Repeats,
+        8 => Rule::Trailing,
+        _ => Rule::Unused,
+    }
+}
+
+fn roster(p: Progress) -> Read
+    ensures { result ≡ roster_of p }
+{
+    Read {
+        vars: p.vars,
+        actions: p.actions,
+        crews: p.crews,
+    }
+}
+
 // What a step tells that goes no further.
-fn told(step: Step) -> Read
-    ensures { result ≡ told_by step }
+fn told(step: Step) -> Result<Read, Refusal>
+    ensures { ToldBy step result }
 {
     match step {
-        Step::On(p) => Read::Roster {
-            vars: p.vars,
-            actions: p.actions,
-            crews: p.crews,
-        },
-        Step::Refused { number, place } => Read::Refused { number, place },
-        Step::Done(p) => Read::Roster {
-            vars: p.vars,
-            actions: p.actions,
-            crews: p.crews,
-        },
+        Step::On(p) => Ok(roster(p)),
+        Step::Refused { number, place } => Err(rule_of(number).at(place)),
+        Step::Done(p) => Ok(roster(p)),
     }
 }
 
@@ -57,7 +77,7 @@ fn read_on(
     vars: &mut [[u8; 3]; 32],
     setters: &mut [u8; 512],
     crews: &mut [u16; 8],
-) -> Read
+) -> Result<Read, Refusal>
     requires { Safe file.now begin (count_column vars.old) }
     ensures { Halfway file.now (seen_all acts.old vars.old setters.old) crews.old begin
         → Reads file.now (seen_all acts.new vars.new setters.new) crews.new result }
@@ -81,7 +101,7 @@ pub fn load(
     vars: &mut [[u8; 3]; 32],
     setters: &mut [u8; 512],
     crews: &mut [u16; 8],
-) -> Read
+) -> Result<Read, Refusal>
     ensures { Sized (seen_all acts.old vars.old setters.old)
         → length crews.old ≡ 8
         → Reads file.now (seen_all acts.new vars.new setters.new) crews.new result }

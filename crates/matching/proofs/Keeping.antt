@@ -1,13 +1,13 @@
 -- Keeping one plan more: its entries are stored row by row, and no entry of another plan is touched.
 -- Assumes nothing.
-use mathlib.Core.Path.{◌≡◌, refl, sym, ◌∙◌}
+use mathlib.Core.Path.{◌≡◌, refl, ◌∙◌}
 use mathlib.Core.Logic.{◌≢◌}
 use mathlib.Core.List.{List, [], ◌∷◌, ◌++◌}
-use Prim.Native.Nat.{ℕ, ◌+◌, ◌*◌, ◌≤◌, ◌<◌}
+use Prim.Native.Nat.{ℕ, ◌+◌, ◌*◌, ◌<◌}
 use native.Mathlib.Omega.{arith}
 use native.Mathlib.Decide.{ℕ_discrete}
-use lib.ListN.{length, get_or, take, drop, set, length-set}
-use lib.Seq.{get_or-set_same, get_or-set_other, drop-set-lt, get_or-take, length-take-le}
+use lib.ListN.{length, get_or, drop, set, length-set}
+use lib.Seq.{get_or-set_same, get_or-set_other, drop-set-lt}
 use Rattle.plain.proofs.Lists.{each_more}
 use Rattle.matching.specs.Kept.{plan_at, Kept, RoomFor, KeptBelow}
 use Rattle.matching.proofs.Places.{row_within, one-column}
@@ -42,15 +42,15 @@ module _ {plan : List ℕ} {k base stride len : ℕ} {before : List ℕ} where
           get_or-set_other region (at + k) (base + stride * q + k) _ 0 (omega (arith, row_within stride before-it)) ∙ to.own q before-it
 
   pub all_stored :
-      {region : List ℕ} {plans : List (List ℕ)} → k < stride → len ≤ length plan → length plans ≡ k
+      {region : List ℕ} {plans : List (List ℕ)} → k < stride → length plan ≡ len → length plans ≡ k
       → KeptTo plan k base stride len before len region → Kept before base stride len plans
-      → Kept region base stride len (plans ++ (take len plan ∷ []))
-  all_stored {region} {plans} few enough is-k to kept = record {
-    even = each_more (λ _ x. length x ≡ len) plans (take len plan) [] kept.even (length-take-le len plan enough);
+      → Kept region base stride len (plans ++ (plan ∷ []))
+  all_stored {region} {plans} few whole is-k to kept = record {
+    even = each_more (λ _ x. length x ≡ len) plans plan [] kept.even whole;
     stands = λ j p h.
-        each_more (λ j x. (p : ℕ) → p < len → get_or region (base + stride * p + j) 0 ≡ get_or x p 0) plans (take len plan) []
+        each_more (λ j x. (p : ℕ) → p < len → get_or region (base + stride * p + j) 0 ≡ get_or x p 0) plans plan []
         (λ i g q b. to.others i q (omega arith) (omega arith) ∙ kept.stands i q g b)
-        (λ q b. rw is-k (to.own q b ∙ sym (get_or-take len plan q 0 b)))
+        (λ q b. rw is-k (to.own q b))
         j h p;
   }
 

@@ -15,12 +15,9 @@ pub fn keep(plan: &[u8], len: usize, k: usize, base: usize, stride: usize, regio
         → Kept region.old base stride len plans
         → Kept region.new base stride len (plans ++ (take len plan.now ∷ [])) }
 {
-    let mut p = 0;
-    let mut at = base;
-    while p < len {
-        region[at + k] = plan[p];
-        at += stride;
-        p += 1;
+    for (p, entry) in plan[..len].iter().enumerate() {
+        let at = base + stride * p;
+        region[at + k] = *entry;
     }
 }
 
@@ -33,14 +30,11 @@ fn same(j: usize, k: usize, len: usize, base: usize, stride: usize, region: &[u8
         → Kept region.now base stride len plans
         → result ≡ same_list (plan_at plans j) (plan_at plans k) }
 {
-    let mut p = 0;
-    let mut at = base;
-    while p < len {
+    for p in 0..len {
+        let at = base + stride * p;
         if region[at + j] != region[at + k] {
             return false;
         }
-        at += stride;
-        p += 1;
     }
     true
 }
@@ -53,12 +47,10 @@ fn comes_again(j: usize, n: usize, len: usize, base: usize, stride: usize, regio
         → Kept region.now base stride len plans
         → result ≡ is_among (plan_at plans j) (drop (j + 1) plans) }
 {
-    let mut k = j + 1;
-    while k < n {
+    for k in j + 1..n {
         if same(j, k, len, base, stride, region) {
             return true;
         }
-        k += 1;
     }
     false
 }
@@ -73,12 +65,10 @@ pub fn different(n: usize, len: usize, base: usize, stride: usize, region: &[u8]
         → result ≡ Figures·different plans }
 {
     let mut found = 0;
-    let mut j = 0;
-    while j < n {
+    for j in 0..n {
         if !comes_again(j, n, len, base, stride, region) {
             found += 1;
         }
-        j += 1;
     }
     found
 }

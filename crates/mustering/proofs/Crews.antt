@@ -8,7 +8,7 @@ use lib.ListN.{length, get_or}
 use borrow.Author.Tests.{lt-ltb, le-ltb}
 use Rattle.study.specs.Study.{Roster, crew_at, study_of}
 use Rattle.study.specs.Reading.{says, refused, reading, heard_by, reading_for}
-use Rattle.tables.specs.Tables.{Tables, tables, Sized, HoldsTasks, Holds, HoldsRoster, seed_at_lem}
+use Rattle.tables.specs.Tables.{Tables, tables, HoldsTasks, Holds, HoldsRoster, seed_at_lem}
 
 pub crew_missing :
     (file : List ℕ) {r : Roster} (crew : ℕ) → reading file ≡ says r → length r.crews ≤ crew → reading_for file crew ≡ refused 22 crew

@@ -5,7 +5,8 @@ ghost use Rattle.std.specs.Prelude.{◌≡◌, ◌<◌};
 ghost use Rattle.tables.specs.Tables.{Sized, Loads};
 ghost use Rattle.tables.specs.Rows.{seen_all};
 
-use tables::{Loaded, Read};
+use answer::{Refusal, Rule};
+use tables::Loaded;
 
 fn wide(x: u16) -> usize
     ensures { (result ≡ x) × (result < 65536) }
@@ -13,38 +14,27 @@ fn wide(x: u16) -> usize
     x as usize
 }
 
-// 22 for a crew that is not there.
+// A crew that is not there is refused.
 pub fn load_for(
     file: &[u8],
     crew: u64,
     acts: &mut [[u8; 6]; 256],
     vars: &mut [[u8; 3]; 32],
     setters: &mut [u8; 512],
-) -> Loaded
+) -> Result<Loaded, Refusal>
     requires { Sized (seen_all acts.old vars.old setters.old) }
     ensures { Loads file.now crew (seen_all acts.new vars.new setters.new) result }
 {
     let mut crews = [0u16; 8];
-    let found = loader::load(file, acts, vars, setters, &mut crews);
-    let Read::Roster {
-        vars: n,
-        actions,
-        crews: many,
-    } = found
-    else {
-        return tasking::unread(found);
-    };
-    if (many as u64) <= crew {
-        return Loaded::Refused {
-            number: 22,
-            place: crew as usize,
-        };
+    let read = loader::load(file, acts, vars, setters, &mut crews)?;
+    if (read.crews as u64) <= crew {
+        return Err(Rule::NoCrew.at(crew as usize));
     }
     let place = wide(crews[crew as usize]);
-    tasking::enter_tasks(file, place, n, vars);
-    Loaded::Study {
-        vars: n,
-        actions,
-        seed: tasking::seed_at(file, place + 4 * n),
-    }
+    tasking::enter_tasks(file, place, read.vars, vars);
+    Ok(Loaded {
+        vars: read.vars,
+        actions: read.actions,
+        seed: tasking::seed_at(file, place + 4 * read.vars),
+    })
 }

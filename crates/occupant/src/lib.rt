@@ -3,40 +3,22 @@
 
 ghost use Rattle.std.specs.Prelude.{◌≡◌, ◌+◌, ◌<◌};
 
-use barring::Stance;
+use barring::Want;
 
-// Idle or waiting, and the sum of all steps.
+// What it waits for, if it is not idle, and the sum of all steps.
 #[derive(Clone, Copy)]
 pub struct Occupant {
-    pub stance: Stance,
+    pub stance: Option<Want>,
     pub sum: u64,
 }
 
-// An event with this step leaves the occupant so.
-fn moved(occupant: Occupant, stance: Stance, step: u64) -> Occupant
-    requires { occupant.sum + step < 18446744073709551616 }
-    ensures { result ≡ record { stance = stance; sum = occupant.sum + step } }
-{
-    Occupant {
-        stance,
-        sum: occupant.sum + step,
+impl Occupant {
+    // An event with this step moves the occupant on, in place.
+    pub fn move_on(&mut self, stance: Option<Want>, step: u64)
+        requires { self.old.sum + step < 18446744073709551616 }
+        ensures { self.new ≡ record { stance = stance; sum = self.old.sum + step } }
+    {
+        self.stance = stance;
+        self.sum += step;
     }
-}
-
-// Moves the occupant on, in place.
-pub fn move_on(occupant: &mut Occupant, stance: Stance, step: u64)
-    requires { occupant.old.sum + step < 18446744073709551616 }
-    ensures { occupant.new ≡ record { stance = stance; sum = occupant.old.sum + step } }
-{
-    *occupant = moved(*occupant, stance, step);
-}
-
-// The same for a caller that has the occupant by value.
-pub fn moved_on(occupant: Occupant, stance: Stance, step: u64) -> Occupant
-    requires { occupant.sum + step < 18446744073709551616 }
-    ensures { result ≡ record { stance = stance; sum = occupant.sum + step } }
-{
-    let mut one = occupant;
-    move_on(&mut one, stance, step);
-    one
 }

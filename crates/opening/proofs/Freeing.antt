@@ -14,9 +14,6 @@ use Rattle.opening.proofs.Joining.{joined_none, joined_as, joined_then}
 use Rattle.opening.proofs.Lowering.{lowered_at_most}
 
 module _ (file : List ℕ) (place : ℕ) (ranks steps : List ℕ) where
-  pub freed_none : (wants : List ℕ) {r : ℕ} → Freed file place 0 ranks steps wants r → ⊥
-  freed_none wants f = omega (arith, f.there)
-
   module _ (k : ℕ) (wants : List ℕ) where
     abbrev entry : ℕ
     entry = entry_at file (place + 3 * k)

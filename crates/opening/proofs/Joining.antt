@@ -74,21 +74,3 @@ leads_joined {ranks} {step} {before} {after} h added = record {
     told : (r : ℕ) → (within before r ≡ true) ⊎ (get_or ranks (step - 2) 0 ≡ r) → (within before r ≡ true) ⊎ Leads ranks step r
     told r (inl x) = inl x
     told r (inr e) = inr record { action = step - 2; next = omega arith; rank = e }
-
--- ---- the ranks of the first variables
-
-module _ {ranks steps wants state : List ℕ} where
-  pub below_none : {r : ℕ} → OpensBelow 0 ranks steps wants state r → ⊥
-  below_none o = omega (arith, o.1.0)
-
-  pub below_more :
-      {v : ℕ} {first second third : List ℕ} → Joined (OpensBelow v ranks steps wants state) first second
-      → Joined (Opens ranks steps wants state v) second third → Joined (OpensBelow (v + 1) ranks steps wants state) first third
-  below_more {v} a b =
-      joined_then a b (λ r o. (o.0, (omega (arith, o.1.0), o.1.1))) (λ r o. (v, (omega arith, o))) (λ r o. split r o.0 o.1.0 o.1.1 (ℕ_discrete o.0 v))
-    where
-      split :
-          (r u : ℕ) → u < v + 1 → Opens ranks steps wants state u r → Dec (u ≡ v)
-          → OpensBelow v ranks steps wants state r ⊎ Opens ranks steps wants state v r
-      split r u h o (yes e) = inr (subst (λ (x : ℕ). Opens ranks steps wants state x r) e o)
-      split r u h o (no d) = inl (u, (omega arith, o))

@@ -67,46 +67,40 @@ module _ (file : List ℕ) where
 
 -- ---- one condition after another
 
--- k of the conditions are done, and the next stands at `at`
-pub record Lowering (file : List ℕ) (place many : ℕ) (wants₀ wants : List ℕ) (at k : ℕ) : Type 0 where
+-- k of the conditions are done
+pub record Lowering (file : List ℕ) (place many : ℕ) (wants₀ wants : List ℕ) (k : ℕ) : Type 0 where
   pub within : k ≤ many
-  pub place_is : at ≡ place + 3 * k
-  pub able : Lowerable file at (many - k) wants
-  pub wants_same : lowered_all file at (many - k) wants ≡ lowered_all file place many wants₀
+  pub able : Lowerable file (place + 3 * k) (many - k) wants
+  pub wants_same : lowered_all file (place + 3 * k) (many - k) wants ≡ lowered_all file place many wants₀
   pub long : length wants ≡ 512
 
 less_one : (k many : ℕ) → k < many → many - k ≡ suc (many - (k + 1))
 less_one k many h = omega arith
 
-all_left : (many : ℕ) → many - 0 ≡ many
-all_left many = omega arith
-
 none_left : (k many : ℕ) → k ≤ many → many ≤ k → many - k ≡ 0
 none_left k many h l = omega arith
 
-pub lowering_starts :
-    (file : List ℕ) (place many : ℕ) (wants : List ℕ)
-    → Lowerable file place many wants → length wants ≡ 512 → Lowering file place many wants wants place 0
-lowering_starts file place many wants able long =
-    record { within = omega arith; place_is = omega arith; able = rw (all_left many) able; wants_same = rw (all_left many) refl; long = long }
+next_place : (place k : ℕ) → place + 3 * (k + 1) ≡ place + 3 * k + 3
+next_place place k = omega arith
 
 module _
-    {file : List ℕ} {place many : ℕ} {wants₀ wants : List ℕ} {at k : ℕ}
-    (low : Lowering file place many wants₀ wants at k) where
-  pub lowering_first : k < many → Lowerable file at (suc (many - (k + 1))) wants
-  lowering_first h = subst (λ (m : ℕ). Lowerable file at m wants) (less_one k many h) low.able
+    {file : List ℕ} {place many : ℕ} {wants₀ wants : List ℕ} {k : ℕ}
+    (low : Lowering file place many wants₀ wants k) where
+  -- the next condition stands at `at`
+  pub lowering_first : k < many → (at : ℕ) → at ≡ place + 3 * k → Lowerable file at (suc (many - (k + 1))) wants
+  lowering_first h at e = rw e (subst (λ (m : ℕ). Lowerable file (place + 3 * k) m wants) (less_one k many h) low.able)
 
-  pub lowering_goes_on : k < many → Lowering file place many wants₀ (lowered file at wants) (at + 3) (k + 1)
+  pub lowering_goes_on : k < many → (at : ℕ) → at ≡ place + 3 * k → Lowering file place many wants₀ (lowered file at wants) (k + 1)
   unfolding lowered_all
-  lowering_goes_on h = record {
+  lowering_goes_on h at e = rw e (record {
     within = omega arith;
-    place_is = omega (arith, low.place_is);
-    able = (lowering_first h).3;
-    wants_same = subst (λ (m : ℕ). lowered_all file at m wants ≡ lowered_all file place many wants₀) (less_one k many h) low.wants_same;
+    able = rw (next_place place k) (lowering_first h (place + 3 * k) refl).3;
+    wants_same = rw (next_place place k)
+        (subst (λ (m : ℕ). lowered_all file (place + 3 * k) m wants ≡ lowered_all file place many wants₀) (less_one k many h) low.wants_same);
     long = length-set wants _ _ ∙ low.long;
-  }
+  })
 
   pub lowering_ends : many ≤ k → wants ≡ lowered_all file place many wants₀
   unfolding lowered_all
   lowering_ends h =
-      subst (λ (m : ℕ). lowered_all file at m wants ≡ lowered_all file place many wants₀) (none_left k many low.within h) low.wants_same
+      subst (λ (m : ℕ). lowered_all file (place + 3 * k) m wants ≡ lowered_all file place many wants₀) (none_left k many low.within h) low.wants_same

@@ -46,10 +46,8 @@ pub fn open_all(
     requires { ((v : ℕ) → v < n → Placed ranks.now steps.now state.now v) × (length opened.old ≡ 4) }
     ensures { Joined (OpensBelow n ranks.now steps.now wants.now state.now) opened.old opened.new }
 {
-    let mut v = 0;
-    while v < n {
+    for v in 0..n {
         open_next(v, ranks, steps, wants, state, opened);
-        v += 1;
     }
 }
 
@@ -70,17 +68,14 @@ pub fn unwant(
     ensures { (wants.new ≡ lowered_all file.now place many wants.old)
         × Joined (Freed file.now place many ranks.now steps.now wants.new) opened.old opened.new }
 {
-    let mut at = place;
-    let mut k = 0;
-    while k < many {
-        let j = 16 * tables::wide(file[at + 1]) + tables::wide(file[at + 2]);
+    for k in 0..many {
+        let at = place + 3 * usize::from(k);
+        let j = 16 * usize::from(file[at + 1]) + usize::from(file[at + 2]);
         let left = wants[j] - 1;
         wants[j] = left;
         if left == 0 {
             open_step(steps[j], ranks, opened);
         }
-        at += 3;
-        k += 1;
     }
 }
 

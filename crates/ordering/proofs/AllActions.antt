@@ -22,7 +22,7 @@ use Rattle.wanting.proofs.OnWalks.{steps_on_walks, first_off_lowest}
 use Rattle.marking.specs.Marking.{Ranked}
 use Rattle.ordering.specs.Marking.{Turn, ActionMarked}
 use Rattle.ordering.specs.Ordering.{OrderableIn, OrdersAll}
-use Rattle.ordering.specs.declared.Found.TheVariants.{Members}
+use Rattle.std.specs.Prelude.{Ok}
 use Rattle.ordering.proofs.Passed.{Passed, none_passed, one_skipped, one_passed, all_passed}
 
 -- no entry of the table is set
@@ -60,16 +60,10 @@ begins size small long low some = record {
 module _
     {file ranks : List ℕ} {a : ℕ} {acts vars : List Row} {setters steps before before' : List ℕ} {members i : ℕ}
     (under : Underway file ranks a acts vars setters steps before before' members i) (h : i < a) where
-  pub rank_low : get_or ranks i 0 < 64
-  rank_low = under.ranked i (omega (arith, under.long))
-
   -- the action's row, opened
   module _ {act : Act} (opens : OpensAction acts i act) {x y : ℕ} (wide-var : x ≡ act.var) (wide-pre : y ≡ act.pre) where
     told_here : {t : Study} → OrderableIn file a acts vars setters steps t → Told t i x y
     told_here o = told o.wishes i h (wide-var ∙ opens.var) (wide-pre ∙ opens.pre)
-
-    pub in_table_lem : 16 * x + y < 512
-    in_table_lem = let (t, o) = under.some in (told_here o).inside
 
     pub skips : get_or steps (16 * x + y) 0 ≢ i + 2 → Underway file ranks a acts vars setters steps before before' members (i + 1)
     skips other = record {
@@ -138,7 +132,7 @@ pub ends :
     → Underway file ranks a acts vars setters steps before before' members i → a ≤ i
     → (t : Study) → OrderableIn file a acts vars setters steps t
     → ((x y : ℕ) → x < a → y < a → get_or ranks x 0 ≡ get_or ranks y 0 → x ≡ y)
-    → Unmarked before → OrdersAll t ranks before' (Members members)
+    → Unmarked before → OrdersAll t ranks before' (Ok members)
 ends {a = a} {i = i} under h t o distinct zeros =
     let e : i ≡ a = omega (arith, under.few) in
     all_passed (under.so_far_lem t o zeros) (e ∙ o.wishes.actions) (rw e distinct)

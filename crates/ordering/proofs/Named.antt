@@ -13,7 +13,7 @@ use Rattle.walks.specs.Walks.{OnAWalk, ValueOnWalk, var_of, post_of, start_of, g
 use Rattle.walks.proofs.Leads.{leads_in, on_walk_usable}
 use Rattle.tracing.specs.Facts.{NamesUsable}
 use Rattle.tracing.specs.Steps.{SetterIs, Rowed}
-use Rattle.tracing.specs.declared.Named.TheVariants.{Is}
+use Rattle.std.specs.Prelude.{Some}
 use Rattle.tracing.proofs.Setters.{names_usable}
 use Rattle.tracing.proofs.StepTable.{step_leaves}
 
@@ -26,10 +26,10 @@ module _ {a : ℕ} (setters : List ℕ) {t : Study} (actions : a ≡ length t.ac
   )
 
   -- a value on a walk that is not the start is set by the action that is named for it
-  pub value_setter : ValueOnWalk t v q → q ≢ start_of t v → SetterIs t v q (Is (get_or setters (16 * v + q) 0))
+  pub value_setter : ValueOnWalk t v q → q ≢ start_of t v → SetterIs t v q (Some (get_or setters (16 * v + q) 0))
   value_setter on away = go on.value
     where
-      go : (q ≡ start_of t v) ⊎ ((i : ℕ) × (In i on.list × (post_of t i ≡ q))) → SetterIs t v q (Is (get_or setters (16 * v + q) 0))
+      go : (q ≡ start_of t v) ⊎ ((i : ℕ) × (In i on.list × (post_of t i ≡ q))) → SetterIs t v q (Some (get_or setters (16 * v + q) 0))
       go (inl e) = absurd (away e)
       go (inr (x, (h, e))) =
           let (usable, own) = leads_in t v (start_of t v) on.list (goal_of t v) on.walk.leads x h in

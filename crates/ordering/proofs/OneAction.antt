@@ -14,7 +14,7 @@ use Rattle.tables.specs.declared.Act.{Act}
 use Rattle.walks.specs.Walks.{OnAWalk, next, var_of, pre_of, conditions_of, start_of}
 use Rattle.walks.proofs.Wanted.{wanted-each}
 use Rattle.tracing.specs.Steps.{SetterIs}
-use Rattle.tracing.specs.declared.Named.TheVariants.{Is}
+use Rattle.std.specs.Prelude.{Some}
 use Rattle.tracing.proofs.Ranges.{pre_small}
 use Rattle.tracing.proofs.StepTable.{step_has_value, on_walk_step}
 use Rattle.marking.specs.Marking.{Ranked, Marked, SetterMarked}
@@ -33,7 +33,7 @@ module _
   narrow = pre_small s.stand.lawful i s.stand.there
 
   -- the action that sets what it leaves
-  setter : pre_of t i ≢ start_of t (var_of t i) → SetterIs t (var_of t i) (pre_of t i) (Is (get_or setters (16 * var_of t i + pre_of t i) 0))
+  setter : pre_of t i ≢ start_of t (var_of t i) → SetterIs t (var_of t i) (pre_of t i) (Some (get_or setters (16 * var_of t i + pre_of t i) 0))
   setter =
       value_setter setters s.actions s.names
       (step_has_value s.rowed (var_of t i) (pre_of t i) turn.on_walk_lem.there narrow

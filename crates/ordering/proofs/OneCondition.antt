@@ -13,7 +13,7 @@ use Rattle.study.specs.Study.{Condition, Study, condition_at}
 use Rattle.walks.specs.Walks.{Wants, sets, leaves, conditions_of, start_of}
 use Rattle.walks.proofs.Leads.{on_walk_usable}
 use Rattle.tracing.specs.Steps.{SetterIs}
-use Rattle.tracing.specs.declared.Named.TheVariants.{Is}
+use Rattle.std.specs.Prelude.{Some}
 use Rattle.tracing.proofs.StepTable.{step_has_value, step_leaves, on_walk_step}
 use Rattle.wanting.specs.Wanting.{step_at}
 use Rattle.wanting.proofs.Conditions.{wants_at, stands_here, condition_there}
@@ -46,7 +46,7 @@ module _
 
     module _ (has-step : step_at (conditions_of t i) steps k ≢ 0) where
       pub setter : (condition t i k).value ≢ start_of t (condition t i k).var
-          → SetterIs t (condition t i k).var (condition t i k).value (Is (get_or setters (16 * (condition t i k).var + (condition t i k).value) 0))
+          → SetterIs t (condition t i k).var (condition t i k).value (Some (get_or setters (16 * (condition t i k).var + (condition t i k).value) 0))
       setter =
           value_setter setters s.actions s.names
           (step_has_value s.rowed (condition t i k).var (condition t i k).value there narrow has-step)

@@ -20,7 +20,7 @@ use Rattle.wanting.proofs.OnWalks.{WantsOnWalks}
 use Rattle.marking.specs.Marking.{Marked}
 use Rattle.ordering.specs.Marking.{SetsFor, WantsLeft, Justified, ActionMarked}
 use Rattle.ordering.specs.Ordering.{OrdersAll}
-use Rattle.ordering.specs.declared.Found.TheVariants.{Members}
+use Rattle.std.specs.Prelude.{Ok}
 
 pub record Passed (t : Study) (ranks : List ℕ) (members : ℕ) (table : List ℕ) (i : ℕ) : Type 0 where
   pub met : (j : ℕ) → j < i → OnAWalk t j → WantsOnWalks t j
@@ -82,7 +82,7 @@ module _ {t : Study} {ranks : List ℕ} {members : ℕ} {table : List ℕ} {i : 
       from r (inr h) = p.only_members r h
 
   pub all_passed :
-      i ≡ length t.actions → ((x y : ℕ) → x < i → y < i → get_or ranks x 0 ≡ get_or ranks y 0 → x ≡ y) → OrdersAll t ranks table (Members members)
+      i ≡ length t.actions → ((x y : ℕ) → x < i → y < i → get_or ranks x 0 ≡ get_or ranks y 0 → x ≡ y) → OrdersAll t ranks table (Ok members)
   all_passed e distinct = (
     λ j on. p.met j (below on) on,
     record {

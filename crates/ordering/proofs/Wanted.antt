@@ -13,18 +13,17 @@ use Rattle.wanting.specs.Wanting.{FirstOff}
 use Rattle.wanting.proofs.Conditions.{Here, stands_here}
 use Rattle.marking.specs.Marking.{Ranked, SetterMarked, LeaverMarked}
 use Rattle.ordering.specs.Marking.{Surveyed, WantedMarked, OrdersWanted}
-use Rattle.ordering.specs.declared.SetBy.TheVariants.{Ranks}
+use Rattle.std.specs.Prelude.{Ok}
 use Rattle.ordering.proofs.OneCondition.{condition, low_rank, told_start, step_of_action, setter, one_more}
 
 -- where the pass stands
 pub record Underway
-    (file : List ℕ) (place many rank : ℕ) (ranks firsts setters steps before before' : List ℕ) (first word at k : ℕ) : Type 0 where
+    (file : List ℕ) (place many rank : ℕ) (ranks firsts setters steps before before' : List ℕ) (first word k : ℕ) : Type 0 where
   pub some : (t : Study) × (i : ℕ) × Surveyed file place many rank ranks firsts setters steps t i
   pub size : length before' ≡ 64
   pub low : rank < 64
   pub ranked : Ranked ranks
   pub few : k ≤ many
-  pub is_at : at ≡ place + 3 * k
   pub so_far_lem :
       (t : Study) (i : ℕ) → Surveyed file place many rank ranks firsts setters steps t i
       → WantedMarked t i k rank ranks steps before before' first word
@@ -33,14 +32,13 @@ pub begins :
     {file : List ℕ} {place many rank : ℕ} {ranks firsts setters steps before : List ℕ} {first : ℕ}
     → length before ≡ 64 → Ranked ranks
     → (t : Study) × (i : ℕ) × Surveyed file place many rank ranks firsts setters steps t i
-    → Underway file place many rank ranks firsts setters steps before before first first place 0
+    → Underway file place many rank ranks firsts setters steps before before first first 0
 begins size ranked some = record {
   some = some;
   size = size;
   low = let (t, i, s) = some in low_rank s ranked;
   ranked = ranked;
   few = omega arith;
-  is_at = omega arith;
   so_far_lem = λ t i s. record {
     have_steps = λ k h. absurd (omega arith);
     setters = λ k h. absurd (omega arith);
@@ -53,22 +51,19 @@ begins size ranked some = record {
 }
 
 module _
-    {file : List ℕ} {place many rank : ℕ} {ranks firsts setters steps before before' : List ℕ} {first word at k : ℕ}
-    (under : Underway file place many rank ranks firsts setters steps before before' first word at k) (h : k < many) where
+    {file : List ℕ} {place many rank : ℕ} {ranks firsts setters steps before before' : List ℕ} {first word k : ℕ}
+    (under : Underway file place many rank ranks firsts setters steps before before' first word k) (h : k < many) {at : ℕ} (is_at : at ≡ place + 3 * k) where
   -- a condition that fits the tables stands here
   pub here : (c : Condition) × Here file at c
-  here = let (t, i, s) = under.some in (condition t i k, stands_here s.stand at k under.is_at h)
-
-  pub few_conditions : many ≤ 31
-  few_conditions = let (t, i, s) = under.some in omega (arith, s.stand.holds.count, conditions_few s.stand.lawful i s.stand.there)
+  here = let (t, i, s) = under.some in (condition t i k, stands_here s.stand at k is_at h)
 
   module _ {x y : ℕ} (is_var : x ≡ get_or file (at + 1) 0) (is-value : y ≡ get_or file (at + 2) 0) where
     module _ (t : Study) (i : ℕ) (s : Surveyed file place many rank ranks firsts setters steps t i) where
       same_var : x ≡ (condition t i k).var
-      same_var = is_var ∙ (stands_here s.stand at k under.is_at h).var
+      same_var = is_var ∙ (stands_here s.stand at k is_at h).var
 
       read_value : get_or file (at + 2) 0 ≡ (condition t i k).value
-      read_value = (stands_here s.stand at k under.is_at h).value
+      read_value = (stands_here s.stand at k is_at h).value
 
       same_value : y ≡ (condition t i k).value
       same_value = is-value ∙ read_value
@@ -104,14 +99,13 @@ module _
           {before'' : List ℕ} {word' : ℕ}
           → LeaverMarked (get_or steps (16 * x + y) 0) rank ranks before' before''
           → SetterMarked word (get_or file (at + 2) 0) start (get_or ranks (get_or setters (16 * x + y) 0) 0) word'
-          → Underway file place many rank ranks firsts setters steps before before'' first word' (at + 3) (k + 1)
+          → Underway file place many rank ranks firsts setters steps before before'' first word' (k + 1)
       goes_on left set = record {
         some = under.some;
         size = left.long;
         low = under.low;
         ranked = under.ranked;
         few = omega arith;
-        is_at = omega (arith, under.is_at);
         so_far_lem = λ t i s.
             one_more s k h (rw (same_var t i s, same_value t i s) at has-step) (under.so_far_lem t i s)
             (rw (same_var t i s, same_value t i s) at left)
@@ -119,10 +113,10 @@ module _
       }
 
 pub ends :
-    {file : List ℕ} {place many rank : ℕ} {ranks firsts setters steps before before' : List ℕ} {first word at k : ℕ}
-    → Underway file place many rank ranks firsts setters steps before before' first word at k → many ≤ k
+    {file : List ℕ} {place many rank : ℕ} {ranks firsts setters steps before before' : List ℕ} {first word k : ℕ}
+    → Underway file place many rank ranks firsts setters steps before before' first word k → many ≤ k
     → (t : Study) (i : ℕ) → Surveyed file place many rank ranks firsts setters steps t i
-    → OrdersWanted t i rank ranks steps before before' first (Ranks word)
+    → OrdersWanted t i rank ranks steps before before' first (Ok word)
 ends {k = k} under h t i s =
     let e : k ≡ length (conditions_of t i) = omega (arith, under.few, s.stand.holds.count) in
     rw e at (under.so_far_lem t i s)

@@ -1,6 +1,6 @@
 -- One walk action marked: the ranks that come before it and after it, as bits of words.
 -- Assumes nothing.
-use Rattle.std.specs.Prelude.{ℕ, ◌+◌, ◌*◌, ◌<◌, ◌≡◌, ◌⊎◌, true, List, length, get_or}
+use Rattle.std.specs.Prelude.{ℕ, ◌+◌, ◌*◌, ◌<◌, ◌≡◌, ◌⊎◌, true, List, length, get_or, Result, Ok, Err}
 use Rattle.bits.specs.Bits.{bit}
 use Rattle.study.specs.Study.{Study, condition_at}
 use Rattle.tables.specs.declared.Act.{Act}
@@ -8,11 +8,7 @@ use Rattle.walks.specs.Walks.{OnAWalk, ComesBefore, Wants, var_of, pre_of, post_
 use Rattle.tracing.specs.Facts.{NamesUsable, Tells}
 use Rattle.tracing.specs.Steps.{Rowed}
 use Rattle.wanting.specs.Wanting.{StandAt, HaveSteps, FirstOff}
-use Rattle.wanting.specs.declared.Wanted.{Wanted}
-use Rattle.wanting.specs.declared.Wanted.TheVariants as Wanted-as
 use Rattle.marking.specs.Marking.{Marked, Grows}
-use Rattle.ordering.specs.declared.SetBy.{SetBy}
-use Rattle.ordering.specs.declared.SetBy.TheVariants as SetBy-as
 
 -- ---- the conditions of one action
 
@@ -55,10 +51,10 @@ pub record WantedMarked (t : Study) (i n rank : ℕ) (ranks steps before before'
   pub only_setters : (b : ℕ) → bit word b ≡ true → (bit first b ≡ true) ⊎ Justified t ranks rank b
   pub only_leavers : (a b : ℕ) → Marked before' a b → Marked before a b ⊎ Justified t ranks a b
 
-abbrev pub OrdersWanted : Study → ℕ → ℕ → List ℕ → List ℕ → List ℕ → List ℕ → ℕ → SetBy → Type 0
-OrdersWanted t i rank ranks steps before before' first (SetBy-as.Ranks word) =
+abbrev pub OrdersWanted : Study → ℕ → ℕ → List ℕ → List ℕ → List ℕ → List ℕ → ℕ → Result ℕ ℕ → Type 0
+OrdersWanted t i rank ranks steps before before' first (Ok word) =
     WantedMarked t i (length (conditions_of t i)) rank ranks steps before before' first word
-OrdersWanted t i rank ranks steps before before' first (SetBy-as.Off u) = FirstOff (conditions_of t i) steps u
+OrdersWanted t i rank ranks steps before before' first (Err u) = FirstOff (conditions_of t i) steps u
 
 -- ---- one action
 
@@ -85,6 +81,6 @@ pub record ActionMarked (t : Study) (i : ℕ) (ranks steps before before' : List
   pub leavers : (x : ℕ) → OnAWalk t x → WantsLeft t i x → Marked before' (get_or ranks x 0) (get_or ranks i 0)
   pub only : (a b : ℕ) → Marked before' a b → Marked before a b ⊎ Justified t ranks a b
 
-abbrev pub OrdersOne : Study → ℕ → List ℕ → List ℕ → List ℕ → List ℕ → Wanted → Type 0
-OrdersOne t i ranks steps before before' Wanted-as.All = ActionMarked t i ranks steps before before'
-OrdersOne t i ranks steps before before' (Wanted-as.Off u) = FirstOff (conditions_of t i) steps u
+abbrev pub OrdersOne : Study → ℕ → List ℕ → List ℕ → List ℕ → List ℕ → Result (Unit {0}) ℕ → Type 0
+OrdersOne t i ranks steps before before' (Ok tt) = ActionMarked t i ranks steps before before'
+OrdersOne t i ranks steps before before' (Err u) = FirstOff (conditions_of t i) steps u

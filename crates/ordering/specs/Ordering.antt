@@ -1,6 +1,6 @@
 -- What comes directly before each walk action, by rank, as bits of words; or the lowest walk action that wants a value off its walk.
 -- Assumes nothing.
-use Rattle.std.specs.Prelude.{ℕ, ◌<◌, ◌≡◌, true, List, length, get_or}
+use Rattle.std.specs.Prelude.{ℕ, ◌<◌, ◌≡◌, true, List, length, get_or, Result, Ok, Err}
 use Rattle.bits.specs.Bits.{bit}
 use Rattle.study.specs.Study.{Study}
 use Rattle.tables.specs.Rows.{Row, var_column, pre_column, place_column, many_column, start_column}
@@ -8,8 +8,7 @@ use Rattle.walks.specs.Walks.{OnAWalk, ComesBefore, Met, start_of}
 use Rattle.planning.specs.Planning.{LowestOff}
 use Rattle.tracing.specs.Facts.{Wishes, NamesUsable, Tells}
 use Rattle.tracing.specs.Steps.{Rowed}
-use Rattle.ordering.specs.declared.Found.{Found}
-use Rattle.ordering.specs.declared.Found.TheVariants.{Members, Off}
+use Rattle.wanting.specs.declared.Off.{Off}
 
 -- the direct orders among the walk actions, by rank: bit r of the members is set for the rank r of a walk action, and bit s of word r where s comes directly before r; a word with a bit is that of an action's rank
 pub record Ordered (t : Study) (ranks : List ℕ) (members : ℕ) (before : List ℕ) : Type 0 where
@@ -19,9 +18,9 @@ pub record Ordered (t : Study) (ranks : List ℕ) (members : ℕ) (before : List
   pub sound : (i j : ℕ) → OnAWalk t i → OnAWalk t j → bit (get_or before (get_or ranks j 0) 0) (get_or ranks i 0) ≡ true → ComesBefore t i j
   pub named : (r s : ℕ) → bit (get_or before r 0) s ≡ true → (j : ℕ) × ((j < length t.actions) × (get_or ranks j 0 ≡ r))
 
-abbrev pub OrdersAll : Study → List ℕ → List ℕ → Found → Type 0
-OrdersAll t ranks before (Members m) = Met t × Ordered t ranks m before
-OrdersAll t ranks before (Off i u) = LowestOff t i u
+abbrev pub OrdersAll : Study → List ℕ → List ℕ → Result ℕ Off → Type 0
+OrdersAll t ranks before (Ok m) = Met t × Ordered t ranks m before
+OrdersAll t ranks before (Err o) = LowestOff t o.action o.var
 
 -- what ordering needs of the loaded tables and of the walks entered in steps
 pub record Orderable

@@ -9,24 +9,11 @@ ghost use Rattle.ordering.specs.Ordering.{OrderableIn, OrdersAll};
 ghost use Rattle.ordering.specs.Marking.{Surveyed, OrdersWanted, Turn, OrdersOne};
 
 use tables::Act;
-use wanting::Wanted;
-
-// The ranks of the walk actions; or the lowest walk action that has a condition off its walk, with the condition's variable.
-#[derive(Clone, Copy)]
-pub enum Found {
-    Members(u64),
-    Off { action: usize, var: u8 },
-}
-
-// A word with the ranks of the actions that set what an action wants; or the variable of its first condition off its walk.
-#[derive(Clone, Copy)]
-pub enum SetBy {
-    Ranks(u64),
-    Off(u8),
-}
+use wanting::Off;
 
 // Passes the conditions of one action: puts the ranks of the actions that set what it wants into the word that begins as
-// `first`, and its own rank before those that leave it.
+// `first`, and its own rank before those that leave it. Refuses the first condition that is off its variable's walk, by the
+// variable.
 fn order_wanted(
     file: &[u8],
     act: Act,
@@ -37,7 +24,7 @@ fn order_wanted(
     setters: &[u8; 512],
     steps: &[u16; 512],
     before: &mut [u64; 64],
-) -> SetBy
+) -> Result<u64, u8>
     requires { (length before.old ≡ 64) × Ranked ranks.now
         × ((t : Study) × (i : ℕ) × Surveyed file.now act.place act.many rank ranks.now (start_column vars.now) setters.now steps.now t i) }
     ensures before_len { length before.new ≡ 64 }
@@ -45,26 +32,22 @@ fn order_wanted(
         → Surveyed file.now act.place act.many rank ranks.now (start_column vars.now) setters.now steps.now t i
         → OrdersWanted t i rank ranks.now steps.now before.old before.new first result }
 {
-    let many = act.many;
     let mut word = first;
-    let mut at = act.place;
-    let mut k = 0;
-    while k < many {
+    for k in 0..act.many {
+        let at = act.place + 3 * usize::from(k);
         let u = file[at + 1];
         let q = file[at + 2];
-        let v = tables::wide(u);
-        let j = 16 * v + tables::wide(q);
+        let v = usize::from(u);
+        let j = 16 * v + usize::from(q);
         let step = steps[j];
         if step == 0 {
-            return SetBy::Off(u);
+            return Err(u);
         }
         marking::put_before(step, rank, ranks, before);
         let var = tables::variable_at(vars, v);
         word = marking::with_setter(word, q, var.start, j, ranks, setters);
-        at += 3;
-        k += 1;
     }
-    SetBy::Ranks(word)
+    Ok(word)
 }
 
 // Orders one walk action, which leaves the value at index j, against those that set what it wants or leaves, and those that
@@ -79,7 +62,7 @@ fn order_one(
     setters: &[u8; 512],
     steps: &[u16; 512],
     before: &mut [u64; 64],
-) -> Wanted
+) -> Result<(), u8>
     requires { (length before.old ≡ 64) × Ranked ranks.now
         × ((t : Study) × (i : ℕ) × Turn file.now act j rank ranks.now (start_column vars.now) setters.now steps.now t i) }
     ensures before_len { length before.new ≡ 64 }
@@ -87,20 +70,15 @@ fn order_one(
         → Turn file.now act j rank ranks.now (start_column vars.now) setters.now steps.now t i
         → OrdersOne t i ranks.now steps.now before.old before.new result }
 {
-    let var = tables::variable_at(vars, tables::wide(act.var));
+    let var = tables::variable_at(vars, usize::from(act.var));
     let first = marking::with_setter(0, act.pre, var.start, j, ranks, setters);
-    let found = order_wanted(file, act, first, rank, ranks, vars, setters, steps, before);
-    match found {
-        SetBy::Off(u) => Wanted::Off(u),
-        SetBy::Ranks(word) => {
-            let r = tables::wide(rank);
-            before[r] = bits::joined(before[r], word);
-            Wanted::All
-        }
-    }
+    let word = order_wanted(file, act, first, rank, ranks, vars, setters, steps, before)?;
+    let r = usize::from(rank);
+    before[r] = bits::joined(before[r], word);
+    Ok(())
 }
 
-// Orders the actions that their step names: those on walks.
+// Orders the actions that their step names: those on walks. Answers their ranks.
 pub fn order_all(
     file: &[u8],
     ranks: &[u8],
@@ -110,7 +88,7 @@ pub fn order_all(
     setters: &[u8; 512],
     steps: &[u16; 512],
     before: &mut [u64; 64],
-) -> Found
+) -> Result<u64, Off>
     requires { (length before.old ≡ 64) × (actions ≤ 64) × (length ranks.now ≡ actions) × ((i : ℕ) → i < actions → get_or ranks.now i 0 < 64)
         × ((t : Study) × OrderableIn file.now actions acts.now vars.now setters.now steps.now t) }
     ensures before_len { length before.new ≡ 64 }
@@ -121,19 +99,16 @@ pub fn order_all(
         → OrdersAll t ranks.now before.new result }
 {
     let mut members = 0u64;
-    let mut i = 0;
-    while i < actions {
+    for i in 0..actions {
         let act = tables::action_at(acts, i);
-        let j = 16 * tables::wide(act.var) + tables::wide(act.pre);
+        let j = 16 * usize::from(act.var) + usize::from(act.pre);
         if steps[j] == (i + 2) as u16 {
             let rank = ranks[i];
             members = bits::with_bit(members, rank);
-            let ordered = order_one(file, act, j, rank, ranks, vars, setters, steps, before);
-            if let Wanted::Off(var) = ordered {
-                return Found::Off { action: i, var };
+            if let Err(var) = order_one(file, act, j, rank, ranks, vars, setters, steps, before) {
+                return Err(Off { action: i, var });
             }
         }
-        i += 1;
     }
-    Found::Members(members)
+    Ok(members)
 }

@@ -7,7 +7,9 @@ use native.Mathlib.Omega.{arith}
 use lib.ListN.{length, get_or, take, drop, replicate}
 use lib.Seq.{take-append_seam}
 use borrow.Author.Tests.{eq-eqb}
+use Rattle.std.specs.Prelude.{Result, Ok, Err}
 use Rattle.answer.specs.declared.Answer.{Answer}
+use Rattle.answer.specs.declared.Refusal.{Refusal}
 use Rattle.study.specs.Study.{Action, Study, action_at}
 use Rattle.study.specs.Reading.{Said, says, refused, reading_for}
 use Rattle.study.proofs.Refusals.{NumberedIfHeard, heard_some, refusals_heard}
@@ -16,7 +18,6 @@ use Rattle.planning.specs.Planning.{Plans, wrong_length, wrong_entry, no_walk, o
 use Rattle.planning.specs.Seeded.{PlansSeeded}
 use Rattle.tables.specs.Tables.{Tables, Holds, Loads}
 use Rattle.tables.specs.declared.Loaded.{Loaded}
-use Rattle.tables.specs.declared.Loaded.TheVariants as Load
 use Rattle.telling.specs.Text.{shown_of, shown_in, plan_text, first_line}
 use Rattle.plan.specs.Printed.{actions_of, Printed}
 use Rattle.telling.proofs.Shown.{Agree, lines_agree}
@@ -83,14 +84,14 @@ held_agree tables holds a h =
     record { var = action.var; pre = action.pre; post = action.post }
 
 loaded_agree :
-    (file : List ℕ) (crew : ℕ) (t : Study) (tables : Tables) (found : Loaded) → Loads file crew tables found → reading_for file crew ≡ says t
+    (file : List ℕ) (crew : ℕ) (t : Study) (tables : Tables) (found : Result Loaded Refusal) → Loads file crew tables found → reading_for file crew ≡ says t
     → (a : ℕ) → a < length t.actions → Agree (shown_in tables.acts.vars tables.acts.pres tables.acts.posts) (shown_of t.actions) a
-loaded_agree file crew t tables (Load.Study vars actions seed) (s, said, holds) e =
+loaded_agree file crew t tables (Ok loaded) (s, said, holds) e =
     let same : s ≡ t = cc in held_agree tables (rw same at holds)
-loaded_agree file crew t tables (Load.Refused number place) said e = absurd (let z : ◌≡◌ {A = ℕ} 0 1 = cc in omega arith)
+loaded_agree file crew t tables (Err refusal) said e = absurd (let z : ◌≡◌ {A = ℕ} 0 1 = cc in omega arith)
 
 pub loaded_text :
-    (file : List ℕ) (crew : ℕ) (list : List ℕ) (t : Study) (tables : Tables) (found : Loaded) {text : List ℕ}
+    (file : List ℕ) (crew : ℕ) (list : List ℕ) (t : Study) (tables : Tables) (found : Result Loaded Refusal) {text : List ℕ}
     → Loads file crew tables found → reading_for file crew ≡ says t
     → ((k : ℕ) → k < length list → get_or list k 0 < length t.actions)
     → text ≡ plan_text (shown_in tables.acts.vars tables.acts.pres tables.acts.posts) list

@@ -34,10 +34,8 @@ fn read(file: &mut [u8]) -> usize
 
 fn print(file: &[u8]) {
     let many = turns::in_file(file);
-    let mut crew = 0;
-    while crew < many {
+    for crew in 0..many {
         print_for(file, crew);
-        crew += 1;
     }
 }
 
@@ -75,6 +73,7 @@ fn tell_plan(file: &[u8], crew: u64, plan: &[u8], out: &mut [u8]) -> usize
     let mut acts = [[0u8; 6]; 256];
     let mut vars = [[0u8; 3]; 32];
     let mut setters = [0u8; 512];
-    mustering::load_for(file, crew, &mut acts, &mut vars, &mut setters);
+    // A file that does not load has no plan to tell.
+    let _ = mustering::load_for(file, crew, &mut acts, &mut vars, &mut setters);
     telling::plan(plan, &acts, out)
 }

@@ -5,8 +5,6 @@ ghost use Rattle.planning.specs.Planning.{PlanAllows};
 ghost use Rattle.planning.specs.Seeded.{SeededAllows};
 
 use answer::Answer;
-use ranking::Tested;
-use tables::Loaded;
 
 // Answer 0 gives the plan's length and writes the plan; a refusal alters nothing.
 pub fn plan(file: &[u8], crew: u64, ranks: &[u8], plan: &mut [u8]) -> Answer
@@ -15,20 +13,23 @@ pub fn plan(file: &[u8], crew: u64, ranks: &[u8], plan: &mut [u8]) -> Answer
     let mut acts = [[0u8; 6]; 256];
     let mut vars = [[0u8; 3]; 32];
     let mut setters = [0u8; 512];
-    let found = mustering::load_for(file, crew, &mut acts, &mut vars, &mut setters);
-    let Loaded::Study {
-        vars: n,
-        actions,
-        seed: _,
-    } = found
-    else {
-        return tables::refused(found);
+    let loaded = match mustering::load_for(file, crew, &mut acts, &mut vars, &mut setters) {
+        Ok(loaded) => loaded,
+        Err(refusal) => return Answer::from(refusal),
     };
-    let tested = ranking::test(ranks, actions);
-    let Tested::Fine = tested else {
-        return handing::unranked(tested, ranks.len());
-    };
-    stages::plan_loaded(file, ranks, n, actions, &acts, &vars, &mut setters, plan)
+    if let Err(fault) = ranking::test(ranks, loaded.actions) {
+        return handing::unranked(fault, ranks.len());
+    }
+    stages::plan_loaded(
+        file,
+        ranks,
+        loaded.vars,
+        loaded.actions,
+        &acts,
+        &vars,
+        &mut setters,
+        plan,
+    )
 }
 
 // The same with the list that the crew's own seed draws.
@@ -38,14 +39,18 @@ pub fn plan_seeded(file: &[u8], crew: u64, plan: &mut [u8]) -> Answer
     let mut acts = [[0u8; 6]; 256];
     let mut vars = [[0u8; 3]; 32];
     let mut setters = [0u8; 512];
-    let found = mustering::load_for(file, crew, &mut acts, &mut vars, &mut setters);
-    let Loaded::Study {
-        vars: n,
-        actions,
-        seed,
-    } = found
-    else {
-        return tables::refused(found);
+    let loaded = match mustering::load_for(file, crew, &mut acts, &mut vars, &mut setters) {
+        Ok(loaded) => loaded,
+        Err(refusal) => return Answer::from(refusal),
     };
-    stages::plan_drawn(file, seed, n, actions, &acts, &vars, &mut setters, plan)
+    stages::plan_drawn(
+        file,
+        loaded.seed,
+        loaded.vars,
+        loaded.actions,
+        &acts,
+        &vars,
+        &mut setters,
+        plan,
+    )
 }

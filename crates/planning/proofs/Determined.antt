@@ -6,9 +6,9 @@ use mathlib.Core.Path.{◌≡◌, refl, sym, ◌∙◌}
 use mathlib.Core.List.{List}
 use lib.ListN.{length}
 use Rattle.answer.specs.declared.Answer.{Answer}
-use Rattle.ranking.specs.Ranking.{tested}
-use Rattle.ranking.specs.declared.Tested.{Tested}
-use Rattle.ranking.specs.declared.Tested.TheVariants.{Fine, Length, Entry}
+use Rattle.ranking.specs.Ranking.{Tested, tested}
+use Rattle.std.specs.Prelude.{Ok, Err}
+use Rattle.ranking.specs.declared.Unranked.TheVariants.{Length, Entry}
 use Rattle.ranking.proofs.Fine.{fine_is_rank_list}
 use Rattle.study.specs.Study.{Study}
 use Rattle.study.specs.Reading.{Said, says, refused, reading_for}
@@ -23,9 +23,9 @@ use Rattle.planning.proofs.Ways.{Fault, Barred, without, off, on_ring, Laid, sho
 
 -- 9
 fault_determined : (ranks : List ℕ) (r : Tested) (x y x' y' : ℕ) → Fault ranks r x y → Fault ranks r x' y' → (x ≡ x') × (y ≡ y')
-fault_determined ranks Fine x y x' y' f g = absurd f
-fault_determined ranks Length x y x' y' f g = (f.0 ∙ sym g.0, f.1 ∙ sym g.1)
-fault_determined ranks (Entry k) x y x' y' f g = (f.0 ∙ sym g.0, f.1 ∙ sym g.1)
+fault_determined ranks (Ok tt) x y x' y' f g = absurd f
+fault_determined ranks (Err Length) x y x' y' f g = (f.0 ∙ sym g.0, f.1 ∙ sym g.1)
+fault_determined ranks (Err (Entry k)) x y x' y' f g = (f.0 ∙ sym g.0, f.1 ∙ sym g.1)
 
 -- 10: one variable is the lowest, and its trace breaks off in one way
 without_not_below : {t : Study} {v x w y : ℕ} → LowestWithout t v x → LowestWithout t w y → v < w → ⊥

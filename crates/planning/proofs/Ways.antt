@@ -7,9 +7,9 @@ use mathlib.Core.List.{List, ◌++◌}
 use lib.ListN.{length, drop}
 use Rattle.answer.specs.Answers.{three, done}
 use Rattle.answer.specs.declared.Answer.{Answer}
-use Rattle.ranking.specs.Ranking.{tested}
-use Rattle.ranking.specs.declared.Tested.{Tested}
-use Rattle.ranking.specs.declared.Tested.TheVariants.{Fine, Length, Entry}
+use Rattle.ranking.specs.Ranking.{Tested, tested}
+use Rattle.std.specs.Prelude.{Ok, Err}
+use Rattle.ranking.specs.declared.Unranked.TheVariants.{Length, Entry}
 use Rattle.study.specs.Study.{Study}
 use Rattle.lawful.specs.Lawful.{Lawful}
 use Rattle.plans.specs.Plans.{StraightPlan}
@@ -21,9 +21,9 @@ use Rattle.planning.proofs.Bars.{without_bars_plans, off_bars_plans, ring_bars_p
 
 -- 9: the first and second number, by what the test says
 abbrev pub Fault : List ℕ → Tested → ℕ → ℕ → Type 0
-Fault ranks Fine first second = ⊥
-Fault ranks Length first second = (first ≡ length ranks) × (second ≡ 1)
-Fault ranks (Entry k) first second = (first ≡ k) × (second ≡ 0)
+Fault ranks (Ok tt) first second = ⊥
+Fault ranks (Err Length) first second = (first ≡ length ranks) × (second ≡ 1)
+Fault ranks (Err (Entry k)) first second = (first ≡ k) × (second ≡ 0)
 
 -- 10, 11, 12: what bars every straight plan
 pub data Barred (t : Study) : Answer → Type 0 where
@@ -38,9 +38,9 @@ pub data Laid (list before : List ℕ) : Answer → List ℕ → Type 0 where
 
 pub data Way (t : Study) (ranks before : List ℕ) : Answer → List ℕ → Type 0 where
   at_fault : {first second : ℕ} → Fault ranks (tested ranks (length t.actions)) first second → Way t ranks before (three 9 first second) before
-  barred : {r : Answer} → tested ranks (length t.actions) ≡ Fine → Barred t r → Way t ranks before r before
+  barred : {r : Answer} → tested ranks (length t.actions) ≡ Ok tt → Barred t r → Way t ranks before r before
   planned :
-      {list after : List ℕ} {r : Answer} → tested ranks (length t.actions) ≡ Fine → FirstPlan t ranks list → Laid list before r after
+      {list after : List ℕ} {r : Answer} → tested ranks (length t.actions) ≡ Ok tt → FirstPlan t ranks list → Laid list before r after
       → Way t ranks before r after
 
 pub way_of : {t : Study} {ranks before after : List ℕ} {r : Answer} → Plans t ranks before r after → Way t ranks before r after

@@ -1,11 +1,11 @@
 -- What planning answers: 9, 10, 11, 12, 13, or 0 with the plan. Dictionary order is over all straight plans.
 -- Assumes nothing.
-use Rattle.std.specs.Prelude.{ℕ, ◌≤◌, ◌<◌, ◌≡◌, List, ◌++◌, length, get_or, drop}
+use Rattle.std.specs.Prelude.{ℕ, ◌≤◌, ◌<◌, ◌≡◌, List, ◌++◌, length, get_or, drop, Ok, Err}
 use Rattle.answer.specs.Answers.{done, refusal}
 use Rattle.answer.specs.Allowing.{Allowing, Exactly}
 use Rattle.answer.specs.declared.Answer.{Answer}
 use Rattle.ranking.specs.Ranking.{tested}
-use Rattle.ranking.specs.declared.Tested.TheVariants.{Fine, Length, Entry}
+use Rattle.ranking.specs.declared.Unranked.TheVariants.{Length, Entry}
 use Rattle.study.specs.Study.{Study}
 use Rattle.study.specs.Reading.{Said, says, refused, reading_for}
 use Rattle.plans.specs.Plans.{StraightPlan}
@@ -45,20 +45,20 @@ pub record FirstPlan (t : Study) (ranks list : List ℕ) : Type 0 where
 
 -- what planning a study with a rank list may answer, and the buffer afterwards
 pub data Plans (t : Study) (ranks before : List ℕ) : Answer → List ℕ → Type 0 where
-  wrong_length : tested ranks (length t.actions) ≡ Length → Plans t ranks before (not_ranked (length ranks) Length) before
-  wrong_entry : {k : ℕ} → tested ranks (length t.actions) ≡ Entry k → Plans t ranks before (not_ranked (length ranks) (Entry k)) before
-  no_walk : {v b : ℕ} → tested ranks (length t.actions) ≡ Fine → LowestWithout t v b → Plans t ranks before (without_walk v b) before
-  off_walk_lem : {i u : ℕ} → tested ranks (length t.actions) ≡ Fine → Walks t → LowestOff t i u → Plans t ranks before (off_walk i u) before
+  wrong_length : tested ranks (length t.actions) ≡ Err Length → Plans t ranks before (not_ranked (length ranks) (Err Length)) before
+  wrong_entry : {k : ℕ} → tested ranks (length t.actions) ≡ Err (Entry k) → Plans t ranks before (not_ranked (length ranks) (Err (Entry k))) before
+  no_walk : {v b : ℕ} → tested ranks (length t.actions) ≡ Ok tt → LowestWithout t v b → Plans t ranks before (without_walk v b) before
+  off_walk_lem : {i u : ℕ} → tested ranks (length t.actions) ≡ Ok tt → Walks t → LowestOff t i u → Plans t ranks before (off_walk i u) before
   ring :
-      {n x : ℕ} → tested ranks (length t.actions) ≡ Fine → Walks t → Met t
+      {n x : ℕ} → tested ranks (length t.actions) ≡ Ok tt → Walks t → Met t
       → OnRing (OnAWalk t) (ComesBefore t) x
       → FreeOfRings t n
       → Plans t ranks before (with_ring n) before
   no_room :
-      {list : List ℕ} → tested ranks (length t.actions) ≡ Fine → FirstPlan t ranks list → length before < length list
+      {list : List ℕ} → tested ranks (length t.actions) ≡ Ok tt → FirstPlan t ranks list → length before < length list
       → Plans t ranks before (short_buffer (length list)) before
   a_plan :
-      {list : List ℕ} → tested ranks (length t.actions) ≡ Fine → FirstPlan t ranks list → length list ≤ length before
+      {list : List ℕ} → tested ranks (length t.actions) ≡ Ok tt → FirstPlan t ranks list → length list ≤ length before
       → Plans t ranks before (done (length list) 0) (list ++ drop (length list) before)
 
 -- what planning what a file says to a crew may answer, and so planning a file for a crew

@@ -1,16 +1,16 @@
 -- The numbers of documents 01 and 02 for each refusal of planning.
 -- Assumes nothing.
-use Rattle.std.specs.Prelude.{ℕ, ◌≤◌}
+use Rattle.std.specs.Prelude.{ℕ, ◌≤◌, Ok, Err}
 use Rattle.answer.specs.Answers.{three, done, refusal}
 use Rattle.answer.specs.declared.Answer.{Answer}
-use Rattle.ranking.specs.declared.Tested.{Tested}
-use Rattle.ranking.specs.declared.Tested.TheVariants.{Fine, Length, Entry}
+use Rattle.ranking.specs.Ranking.{Tested}
+use Rattle.ranking.specs.declared.Unranked.TheVariants.{Length, Entry}
 
 -- 9: what is no rank list, by its length and the case of its test
 abbrev pub not_ranked : ℕ → Tested → Answer
-not_ranked len Fine = done 0 0
-not_ranked len Length = three 9 len 1
-not_ranked len (Entry k) = refusal 9 k
+not_ranked len (Ok tt) = done 0 0
+not_ranked len (Err Length) = three 9 len 1
+not_ranked len (Err (Entry k)) = refusal 9 k
 
 -- 10: a variable has no walk, and where its trace breaks off
 abbrev pub without_walk : ℕ → ℕ → Answer

@@ -17,7 +17,8 @@ use Rattle.spelling.specs.Spelling.{spelled_record, spelled}
 use Rattle.spelling.specs.Lists.{Errand, Team, condition_record, task_record, times_record, action_records, behind, crew_records}
 use Rattle.spelling.specs.Lent.{number, conditions_in, left, actions_in, announced, errands_in, untaken, crews_in, tasks_announced}
 use Rattle.spelling.proofs.Rewritten.{spelled-append}
-use Rattle.spelling.proofs.LentBytes.{one_byte, two_bytes, three_bytes, five_bytes, first_conditions, conditions_behind, first_errands, errands_behind}
+use Rattle.spelling.proofs.LentBytes.{one_byte, first_conditions, conditions_behind, first_errands, errands_behind}
+use Rattle.spelling.proofs.Chunks.{Chunk, two_first, three_first, five_first}
 use Rattle.putting.proofs.Putting.{Starts}
 
 pub nothing_left : (l : List ℕ) (i : ℕ) → length l ≤ i → drop i l ≡ []
@@ -43,15 +44,17 @@ module _ (variables : List ℕ) (i : ℕ) (h : i + 1 ≤ length variables) where
   unfolding spelled spelled_record
   variable_first = record { split = rw (one_byte variables i h) }
 
-module _ (conditions : List ℕ) (i : ℕ) (h : i + 2 ≤ length conditions) where
-  pub condition_first : Starts (conditions_from conditions i) (3 ∷ get_or conditions i 0 ∷ get_or conditions (i + 1) 0 ∷ []) (conditions_from conditions (i + 2))
-  unfolding spelled spelled_record conditions_in
-  condition_first = record { split = rw (two_bytes conditions i h) }
+pub condition_first :
+    {conditions pair : List ℕ} {k : ℕ} → Chunk 2 conditions k pair
+    → Starts (conditions_from conditions (2 * k)) (3 ∷ get_or pair 0 0 ∷ get_or pair 1 0 ∷ []) (conditions_from conditions (2 * (k + 1)))
+unfolding spelled spelled_record conditions_in
+condition_first c = record { split = rw (two_first c) }
 
-module _ (tasks : List ℕ) (i : ℕ) (h : i + 3 ≤ length tasks) where
-  pub task_first : Starts (tasks_from tasks i) (4 ∷ get_or tasks i 0 ∷ get_or tasks (i + 1) 0 ∷ get_or tasks (i + 2) 0 ∷ []) (tasks_from tasks (i + 3))
-  unfolding spelled spelled_record errands_in
-  task_first = record { split = rw (three_bytes tasks i h) }
+pub task_first :
+    {tasks task : List ℕ} {k : ℕ} → Chunk 3 tasks k task
+    → Starts (tasks_from tasks (3 * k)) (4 ∷ get_or task 0 0 ∷ get_or task 1 0 ∷ get_or task 2 0 ∷ []) (tasks_from tasks (3 * (k + 1)))
+unfolding spelled spelled_record errands_in
+task_first c = record { split = rw (three_first c) }
 
 -- a record that may not be written
 pub unless-spelled : (b : Bool) (r : Record) → spelled (pick b [] (r ∷ [])) ≡ pick b [] (spelled_record r)
@@ -63,23 +66,23 @@ unless-spelled false r = append-nil (spelled_record r)
 abbrev pub unless_bytes : ℕ → ℕ → ℕ → List ℕ
 unless_bytes unwritten kind n = pick (eqb n unwritten) [] (kind ∷ n ∷ [])
 
-module _ (actions : List ℕ) (i : ℕ) (h : i + 5 ≤ length actions) where
-  pub announced_first : announced (drop i actions) ≡ get_or actions (i + 4) 0 + announced (drop (i + 5) actions)
+module _ {actions entry : List ℕ} {k : ℕ} (c : Chunk 5 actions k entry) where
+  pub announced_first : announced (drop (5 * k) actions) ≡ get_or entry 4 0 + announced (drop (5 * (k + 1)) actions)
   unfolding announced
-  announced_first = rw (five_bytes actions i h)
+  announced_first = rw (five_first c)
 
   -- its conditions end at a place, and behind them come its situations
   pub action_first :
-      (conditions : List ℕ) (used next : ℕ) → next ≡ used + 2 * get_or actions (i + 4) 0 → next ≤ length conditions
-      → Starts (actions_from actions conditions i used)
-      (2 ∷ get_or actions i 0 ∷ get_or actions (i + 1) 0 ∷ get_or actions (i + 2) 0 ∷ [])
+      (conditions : List ℕ) (used next : ℕ) → next ≡ used + 2 * get_or entry 4 0 → next ≤ length conditions
+      → Starts (actions_from actions conditions (5 * k) used)
+      (2 ∷ get_or entry 0 0 ∷ get_or entry 1 0 ∷ get_or entry 2 0 ∷ [])
       (conditions_from (take (next - used) (drop used conditions)) 0
-      ++ (unless_bytes always 7 (get_or actions (i + 3) 0) ++ actions_from actions conditions (i + 5) next))
+      ++ (unless_bytes always 7 (get_or entry 3 0) ++ actions_from actions conditions (5 * (k + 1)) next))
   unfolding spelled spelled_record action_records actions_in
   action_first conditions used next e fits =
       record {
         split = rw (
-          five_bytes actions i h,
+          five_first c,
           width,
           first_conditions many later (omega (arith, length-drop used conditions)),
           conditions_behind many later,
@@ -92,10 +95,10 @@ module _ (actions : List ℕ) (i : ℕ) (h : i + 5 ≤ length actions) where
       }
     where
       many : ℕ
-      many = get_or actions (i + 4) 0
+      many = get_or entry 4 0
 
       set : ℕ
-      set = get_or actions (i + 3) 0
+      set = get_or entry 3 0
 
       later : List ℕ
       later = drop used conditions
@@ -119,10 +122,10 @@ abbrev pub crews_from : List ℕ → List ℕ → ℕ → ℕ → List ℕ
 crews_from crews tasks i used =
     pick (ltb i (length crews)) (spelled (crew_records (crews_in (drop i crews) (errands_in (drop used tasks))))) []
 
-abbrev pub seed_bytes : List ℕ → ℕ → List ℕ
-seed_bytes crews i =
-    spelled_record (seed (number (get_or crews (i + 1) 0) (get_or crews (i + 2) 0) (get_or crews (i + 3) 0) (get_or crews (i + 4) 0)))
-    ++ (pick (ltb (i + 5) (length crews)) 9 6 ∷ [])
+-- .. of a crew's seed, and the kind of what stands behind it, at a place
+abbrev pub seed_bytes : List ℕ → List ℕ → ℕ → List ℕ
+seed_bytes crews crew i =
+    spelled_record (seed (number (get_or crew 1 0) (get_or crew 2 0) (get_or crew 3 0) (get_or crew 4 0))) ++ (pick (ltb i (length crews)) 9 6 ∷ [])
 
 -- crews behind a seed, of which there are some
 opened : (ks : List Team) → 1 ≤ length ks → spelled (behind ks) ≡ 9 ∷ spelled (crew_records ks)
@@ -161,23 +164,23 @@ behind_seed crews tasks i used all = from (dec_lt i (length crews))
         let every = rw none at all in
         rw (le-ltb i (length crews) over, none, nothing_left tasks used (omega arith))
 
-module _ (crews : List ℕ) (i : ℕ) (h : i + 5 ≤ length crews) where
-  pub tasks_announced_first : tasks_announced (drop i crews) ≡ get_or crews i 0 + tasks_announced (drop (i + 5) crews)
+module _ {crews crew : List ℕ} {k : ℕ} (c : Chunk 5 crews k crew) where
+  pub tasks_announced_first : tasks_announced (drop (5 * k) crews) ≡ get_or crew 0 0 + tasks_announced (drop (5 * (k + 1)) crews)
   unfolding tasks_announced
-  tasks_announced_first = rw (five_bytes crews i h)
+  tasks_announced_first = rw (five_first c)
 
   -- its tasks end at a place, and behind them comes its seed
   pub crew_first :
-      (tasks : List ℕ) (used next : ℕ) → next ≡ used + 3 * get_or crews i 0
-      → next + 3 * tasks_announced (drop (i + 5) crews) ≡ length tasks
-      → Starts (crews_from crews tasks i used) (tasks_from (take (next - used) (drop used tasks)) 0)
-      (seed_bytes crews i ++ crews_from crews tasks (i + 5) next)
+      (tasks : List ℕ) (used next : ℕ) → next ≡ used + 3 * get_or crew 0 0
+      → next + 3 * tasks_announced (drop (5 * (k + 1)) crews) ≡ length tasks
+      → Starts (crews_from crews tasks (5 * k) used) (tasks_from (take (next - used) (drop used tasks)) 0)
+      (seed_bytes crews crew (5 * (k + 1)) ++ crews_from crews tasks (5 * (k + 1)) next)
   unfolding spelled spelled_record crew_records crews_in
   crew_first tasks used next e all =
       record {
         split = rw (
-          lt-ltb i (length crews) (omega arith),
-          five_bytes crews i h,
+          lt-ltb (5 * k) (length crews) (omega (arith, c.room)),
+          five_first c,
           width,
           first_errands many later (omega (arith, length-drop used tasks)),
           errands_behind many later,
@@ -185,12 +188,12 @@ module _ (crews : List ℕ) (i : ℕ) (h : i + 5 ≤ length crews) where
           ← e,
           append_assoc,
           spelled-append (map task_record (errands_in (take (3 * many) later))) _,
-          behind_seed crews tasks (i + 5) next all,
+          behind_seed crews tasks (5 * (k + 1)) next all,
         );
       }
     where
       many : ℕ
-      many = get_or crews i 0
+      many = get_or crew 0 0
 
       later : List ℕ
       later = drop used tasks

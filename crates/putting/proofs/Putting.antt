@@ -9,13 +9,6 @@ use lib.ListN.{length, set, drop, length-append}
 use lib.Seq.{sets, length-sets, sets-eq}
 use Rattle.putting.specs.Put.{Fits, Put}
 
--- the code's sums, as a run of stores counts
-pub add_two : (n : ℕ) → n + 2 ≡ suc (suc n)
-add_two n = omega arith
-
-pub add_three : (n : ℕ) → n + 3 ≡ suc (suc (suc n))
-add_three n = omega arith
-
 sets-append : (xs ys l : List ℕ) (at next : ℕ) → next ≡ at + length xs → sets l at (xs ++ ys) ≡ sets (sets l at xs) next ys
 sets-append [] ys l at next e = let same : next ≡ at = omega arith in rw same
 sets-append (x ∷ xs) ys l at next e = sets-append xs ys (set l at x) (suc at) next (omega arith)

@@ -1,4 +1,4 @@
-// So many bytes put into a file from a place on; each function returns the place after them.
+// Bytes put into a file from a place on; each function returns the place after them.
 #![tactic(auto)]
 
 ghost use Rattle.std.specs.Prelude.{◌≡◌, [], ◌∷◌, ◌++◌, eqb};
@@ -8,34 +8,13 @@ ghost use Rattle.spelling.specs.Spelling.{spelled_record};
 ghost use Rattle.spelling.specs.Lent.{number};
 ghost use Rattle.putting.specs.Put.{Fits, Put};
 
-pub fn put_two(a: u8, b: u8, at: usize, file: &mut [u8]) -> usize
-    requires { Fits (a ∷ b ∷ []) at file.old }
-    ensures { Put (a ∷ b ∷ []) at file.old file.new result }
+pub fn put<const N: usize>(bytes: [u8; N], at: usize, file: &mut [u8]) -> usize
+    requires { Fits bytes at file.old }
+    ensures { Put bytes.entry at file.old file.new result }
 {
-    file[at] = a;
-    file[at + 1] = b;
-    at + 2
-}
-
-pub fn put_three(a: u8, b: u8, c: u8, at: usize, file: &mut [u8]) -> usize
-    requires { Fits (a ∷ b ∷ c ∷ []) at file.old }
-    ensures { Put (a ∷ b ∷ c ∷ []) at file.old file.new result }
-{
-    file[at] = a;
-    file[at + 1] = b;
-    file[at + 2] = c;
-    at + 3
-}
-
-pub fn put_four(a: u8, b: u8, c: u8, d: u8, at: usize, file: &mut [u8]) -> usize
-    requires { Fits (a ∷ b ∷ c ∷ d ∷ []) at file.old }
-    ensures { Put (a ∷ b ∷ c ∷ d ∷ []) at file.old file.new result }
-{
-    file[at] = a;
-    file[at + 1] = b;
-    file[at + 2] = c;
-    file[at + 3] = d;
-    at + 4
+    let next = at + N;
+    file[at..next].copy_from_slice(&bytes);
+    next
 }
 
 // A record of one byte, unless that byte stands for one that is not written.
@@ -46,7 +25,7 @@ pub fn put_unless(unwritten: u8, kind: u8, n: u8, at: usize, file: &mut [u8]) ->
     if n == unwritten {
         return at;
     }
-    put_two(kind, n, at, file)
+    put([kind, n], at, file)
 }
 
 // The seed of these four bytes, and the kind of the record behind it, which has no body.
@@ -54,6 +33,5 @@ pub fn put_seed(a: u8, b: u8, c: u8, d: u8, behind: u8, at: usize, file: &mut [u
     requires { Fits (spelled_record (seed (number a b c d)) ++ (behind ∷ [])) at file.old }
     ensures { Put (spelled_record (seed (number a b c d)) ++ (behind ∷ [])) at file.old file.new result }
 {
-    let middle = put_three(5, a, b, at, file);
-    put_three(c, d, behind, middle, file)
+    put([5, a, b, c, d, behind], at, file)
 }

@@ -13,9 +13,9 @@ use borrow.Author.Tests.{eqb-true, eqb-false, eq-eqb, leb-true, leb-false}
 use Rattle.plain.proofs.Tests.{picked, either}
 use Rattle.ranks.specs.Ranks.{RankList}
 use Rattle.ranks.proofs.Entries.{entry_of_rank_list_below, entries_of_rank_list_differ, rank_list_of_entries}
-use Rattle.ranking.specs.declared.Tested.{Tested}
-use Rattle.ranking.specs.declared.Tested.TheVariants.{Fine, Length, Entry}
-use Rattle.ranking.specs.Ranking.{among, tested_from, tested}
+use Rattle.std.specs.Prelude.{Ok, Err}
+use Rattle.ranking.specs.declared.Unranked.TheVariants.{Length, Entry}
+use Rattle.ranking.specs.Ranking.{Tested, among, tested_from, tested}
 
 -- an entry repeats an earlier one
 abbrev pub Repeats : List ℕ → ℕ → Type 0
@@ -36,9 +36,9 @@ pub record FirstBad (ranks : List ℕ) (n k : ℕ) : Type 0 where
 -- ---- what the test may say
 
 data Says (ranks : List ℕ) (n : ℕ) : Tested → Type 0 where
-  all_good : length ranks ≡ n → GoodTo ranks n n → Says ranks n Fine
-  other_length : length ranks ≢ n → Says ranks n Length
-  bad_at : {k : ℕ} → FirstBad ranks n k → Says ranks n (Entry k)
+  all_good : length ranks ≡ n → GoodTo ranks n n → Says ranks n (Ok tt)
+  other_length : length ranks ≢ n → Says ranks n (Err Length)
+  bad_at : {k : ℕ} → FirstBad ranks n k → Says ranks n (Err (Entry k))
 
 neither : (a b : Bool) → (a || b) ≡ false → (a ≡ false) × (b ≡ false)
 neither true b e = let z : ◌≡◌ {A = ℕ} 0 1 = cc in absurd (omega arith)
@@ -127,17 +127,17 @@ says ranks n =
 
 -- ---- and exactly that
 
-says_fine : {ranks : List ℕ} {n : ℕ} {r : Tested} → Says ranks n r → r ≡ Fine → (length ranks ≡ n) × GoodTo ranks n n
+says_fine : {ranks : List ℕ} {n : ℕ} {r : Tested} → Says ranks n r → r ≡ Ok tt → (length ranks ≡ n) × GoodTo ranks n n
 says_fine (all_good e good) h = (e, good)
 says_fine (other_length o) h = let z : ◌≡◌ {A = ℕ} 0 1 = cc in absurd (omega arith)
 says_fine (bad_at b) h = let z : ◌≡◌ {A = ℕ} 0 1 = cc in absurd (omega arith)
 
-says_length : {ranks : List ℕ} {n : ℕ} {r : Tested} → Says ranks n r → r ≡ Length → length ranks ≢ n
+says_length : {ranks : List ℕ} {n : ℕ} {r : Tested} → Says ranks n r → r ≡ Err Length → length ranks ≢ n
 says_length (all_good e good) h = let z : ◌≡◌ {A = ℕ} 0 1 = cc in absurd (omega arith)
 says_length (other_length o) h = o
 says_length (bad_at b) h = let z : ◌≡◌ {A = ℕ} 0 1 = cc in absurd (omega arith)
 
-says_entry : {ranks : List ℕ} {n k : ℕ} {r : Tested} → Says ranks n r → r ≡ Entry k → FirstBad ranks n k
+says_entry : {ranks : List ℕ} {n k : ℕ} {r : Tested} → Says ranks n r → r ≡ Err (Entry k) → FirstBad ranks n k
 says_entry (all_good e good) h = let z : ◌≡◌ {A = ℕ} 0 1 = cc in absurd (omega arith)
 says_entry (other_length o) h = let z : ◌≡◌ {A = ℕ} 0 1 = cc in absurd (omega arith)
 says_entry {k = k} (bad_at {k = j} b) h = let z : j ≡ k = cc in rw z at b
@@ -150,29 +150,29 @@ good_not_bad {ranks} {n} {k} {m} b good h = go b.bad
     go (inl l) = omega (arith, good.small k h)
     go (inr (i, (l, e))) = good.differ i k l h e
 
-pub fine_is_rank_list : {ranks : List ℕ} {n : ℕ} → tested ranks n ≡ Fine → RankList n ranks
+pub fine_is_rank_list : {ranks : List ℕ} {n : ℕ} → tested ranks n ≡ Ok tt → RankList n ranks
 fine_is_rank_list {ranks} {n} h = let (e, good) = says_fine (says ranks n) h in rank_list_of_entries ranks e good.small good.differ
 
-pub rank_list_is_fine : {ranks : List ℕ} {n : ℕ} → RankList n ranks → tested ranks n ≡ Fine
+pub rank_list_is_fine : {ranks : List ℕ} {n : ℕ} → RankList n ranks → tested ranks n ≡ Ok tt
 rank_list_is_fine {ranks} {n} r = go (says ranks n)
   where
-    go : {s : Tested} → Says ranks n s → s ≡ Fine
+    go : {s : Tested} → Says ranks n s → s ≡ Ok tt
     go (all_good e good) = refl
     go (other_length o) = absurd (o r.an_entry_for_each)
     go (bad_at b) = absurd (good_not_bad b (record { small = entry_of_rank_list_below r; differ = entries_of_rank_list_differ r }) b.there)
 
-pub length_is_wrong : (ranks : List ℕ) (n : ℕ) → (tested ranks n ≡ Length) ↔ (length ranks ≢ n)
+pub length_is_wrong : (ranks : List ℕ) (n : ℕ) → (tested ranks n ≡ Err Length) ↔ (length ranks ≢ n)
 length_is_wrong ranks n = (says_length (says ranks n), λ o. go o (says ranks n))
   where
-    go : {s : Tested} → length ranks ≢ n → Says ranks n s → s ≡ Length
+    go : {s : Tested} → length ranks ≢ n → Says ranks n s → s ≡ Err Length
     go o (all_good e good) = absurd (o e)
     go o (other_length _) = refl
     go o (bad_at b) = absurd (o b.long)
 
-pub entry_is_first_bad : (ranks : List ℕ) (n k : ℕ) → (tested ranks n ≡ Entry k) ↔ FirstBad ranks n k
+pub entry_is_first_bad : (ranks : List ℕ) (n k : ℕ) → (tested ranks n ≡ Err (Entry k)) ↔ FirstBad ranks n k
 entry_is_first_bad ranks n k = (says_entry (says ranks n), λ b. go b (says ranks n))
   where
-    go : {s : Tested} → FirstBad ranks n k → Says ranks n s → s ≡ Entry k
+    go : {s : Tested} → FirstBad ranks n k → Says ranks n s → s ≡ Err (Entry k)
     go b (all_good e good) = absurd (good_not_bad b good b.there)
     go b (other_length o) = absurd (o b.long)
     go b (bad_at {k = j} c) = let z : j ≡ k = omega (arith, good_not_bad b c.good, good_not_bad c b.good) in rw z

@@ -13,7 +13,8 @@ use borrow.Author.Tests.{le-leb, lt-leb}
 use Rattle.plain.specs.Choose.{pick}
 use Rattle.bits.specs.Bits.{within, Added}
 use Rattle.bits.proofs.Members.{fresh_empty}
-use Rattle.ranking.specs.declared.Tested.TheVariants.{Fine, Entry}
+use Rattle.std.specs.Prelude.{Ok, Err}
+use Rattle.ranking.specs.declared.Unranked.TheVariants.{Entry}
 use Rattle.ranking.specs.Ranking.{among, tested_from}
 
 -- after k entries the set has the earlier ones, and what is left to test gives what the whole does
@@ -34,15 +35,15 @@ module _ {ranks : List ℕ} {actions k : ℕ} {met : List ℕ} (m : Marked ranks
   next_entry :
       (more : k < length ranks)
       → tested_from actions [] 0 ranks
-      ≡ pick (leb actions (get_or ranks k 0) || among m.earlier (get_or ranks k 0)) (Entry k) (tested_from actions (get_or ranks k 0 ∷ m.earlier) (k + 1) (drop (suc k) ranks))
+      ≡ pick (leb actions (get_or ranks k 0) || among m.earlier (get_or ranks k 0)) (Err (Entry k)) (tested_from actions (get_or ranks k 0 ∷ m.earlier) (k + 1) (drop (suc k) ranks))
   unfolding tested_from
   next_entry more = m.rest ∙ rw (drop-cons ranks k 0 more)
 
-  pub too_large : k < length ranks → actions ≤ get_or ranks k 0 → tested_from actions [] 0 ranks ≡ Entry k
+  pub too_large : k < length ranks → actions ≤ get_or ranks k 0 → tested_from actions [] 0 ranks ≡ Err (Entry k)
   too_large more h = rw (next_entry more, le-leb actions (get_or ranks k 0) h)
 
   pub repeated :
-      k < length ranks → get_or ranks k 0 < actions → within met (get_or ranks k 0) ≡ true → tested_from actions [] 0 ranks ≡ Entry k
+      k < length ranks → get_or ranks k 0 < actions → within met (get_or ranks k 0) ≡ true → tested_from actions [] 0 ranks ≡ Err (Entry k)
   repeated more h old = rw (next_entry more, lt-leb actions (get_or ranks k 0) h, m.marks (get_or ranks k 0), old)
 
   pub one_more :
@@ -61,7 +62,7 @@ module _ {ranks : List ℕ} {actions k : ℕ} {met : List ℕ} (m : Marked ranks
       x : ℕ
       x = get_or ranks k 0
 
-  pub all_tested : length ranks ≤ k → tested_from actions [] 0 ranks ≡ Fine
+  pub all_tested : length ranks ≤ k → tested_from actions [] 0 ranks ≡ Ok tt
   unfolding tested_from
   all_tested h =
       let e : k ≡ length ranks = omega (arith, m.reached) in

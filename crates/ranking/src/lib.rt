@@ -5,37 +5,32 @@ ghost use Rattle.std.specs.Prelude.{◌≡◌, ◌≤◌, length};
 ghost use Rattle.ranks.specs.Ranks.{Apart, Turned};
 ghost use Rattle.ranking.specs.Ranking.{tested};
 
-// What the test of a rank list finds: the list is a rank list, its length is wrong, or the first entry that is too large
-// or repeats an earlier one.
-#[derive(Clone, Copy)]
-pub enum Tested {
-    Fine,
+// Why a list is no rank list: its length is wrong, or an entry is the first that is too large or repeats an earlier one.
+#[derive(Clone, Copy, Debug, PartialEq, Eq)]
+pub enum Unranked {
     Length,
     Entry(usize),
 }
 
-pub fn test(ranks: &[u8], actions: usize) -> Tested
+pub fn test(ranks: &[u8], actions: usize) -> Result<(), Unranked>
     ensures { result ≡ tested ranks.now actions }
 {
     if ranks.len() != actions {
-        return Tested::Length;
+        return Err(Unranked::Length);
     }
     let mut met = [0u64; 4];
-    let mut k = 0;
-    while k < ranks.len() {
-        let entry = ranks[k];
-        if actions <= entry as usize {
-            return Tested::Entry(k);
+    for (k, &entry) in ranks.iter().enumerate() {
+        if actions <= usize::from(entry) {
+            return Err(Unranked::Entry(k));
         }
         let repeats = bits::contains(&met, entry);
         // before the branch: two instructions less for each entry than after it
         bits::add(&mut met, entry);
         if repeats {
-            return Tested::Entry(k);
+            return Err(Unranked::Entry(k));
         }
-        k += 1;
     }
-    Tested::Fine
+    Ok(())
 }
 
 // Enters each action under its rank.
@@ -44,9 +39,7 @@ pub fn name_all(ranks: &[u8], names: &mut [u8; 512])
     ensures names_len { length names.new ≡ 512 }
     ensures turned { Apart ranks.now → Turned ranks.now names.new }
 {
-    let mut i = 0;
-    while i < ranks.len() {
-        names[ranks[i] as usize] = i as u8;
-        i += 1;
+    for (i, &rank) in ranks.iter().enumerate() {
+        names[usize::from(rank)] = i as u8;
     }
 }

@@ -12,7 +12,9 @@ use borrow.Author.Tests.{eq-eqb, ne_eqb, lt-ltb, leb-true, le-leb, lt-leb}
 use Rattle.bits.specs.Bits.{within, Removed, LeastMember}
 use Rattle.study.specs.Study.{Action, Study, no_action}
 use Rattle.walks.specs.Walks.{conditions_of}
-use Rattle.tables.specs.Rows.{Row}
+use Rattle.facts.specs.declared.Fact.{Fact as FactRow}
+use Rattle.facts.specs.declared.Fact.TheVariants.{After}
+use Rattle.facts.specs.declared.Rule.TheVariants.{Leaves}
 use Rattle.wanting.specs.Wanting.{wants}
 use Rattle.explained.specs.Facts.{rows_of}
 use Rattle.explained.specs.Reasons.{stands, leave_reasons}
@@ -59,16 +61,14 @@ still_left set rest rest' lo i left passed least removed m = removed.members m �
 -- ---- where the pass stands: those of the set from `lo` on are left
 
 pub record Underway
-    (v q begin : ℕ) (wanters : Sets) (places : List ℕ) (facts facts' : List Row) (rest : List ℕ) (n k : ℕ) : Type 0 where
+    (v q begin : ℕ) (wanters : Sets) (places : List ℕ) (facts facts' : List FactRow) (rest : List ℕ) (n : ℕ) : Type 0 where
   pub low : v < 32
   pub narrow : q < 16
   pub start : begin ≤ 32
   pub size : length facts' ≡ 288
   pub long : length rest ≡ 4
-  pub few : k ≤ 256
-  pub told : n ≤ begin + k
   pub lo : ℕ
-  pub passed : k ≤ lo
+  pub passed : n ≤ begin + lo
   pub inside : lo ≤ 256
   pub left : (i : ℕ) → within rest i ≡ (leb lo i && within (set_at wanters v q) i)
   pub so_far_lem :
@@ -76,9 +76,9 @@ pub record Underway
       → take n facts' ≡ take begin facts ++ rows_of (leave_reasons t plan v q 0 lo)
 
 pub begins :
-    {v q begin : ℕ} {wanters : Sets} {places : List ℕ} {facts : List Row} {rest : List ℕ}
+    {v q begin : ℕ} {wanters : Sets} {places : List ℕ} {facts : List FactRow} {rest : List ℕ}
     → v < 32 → q < 16 → begin ≤ 32 → length facts ≡ 288 → length rest ≡ 4 → rest ≡ set_at wanters v q
-    → Underway v q begin wanters places facts facts rest begin 0
+    → Underway v q begin wanters places facts facts rest begin
 unfolding leave_reasons
 begins low narrow start size long is = record {
   low = low;
@@ -86,8 +86,6 @@ begins low narrow start size long is = record {
   start = start;
   size = size;
   long = long;
-  few = omega arith;
-  told = omega arith;
   lo = 0;
   passed = omega arith;
   inside = omega arith;
@@ -96,8 +94,8 @@ begins low narrow start size long is = record {
 }
 
 module _
-    {v q begin : ℕ} {wanters : Sets} {places : List ℕ} {facts facts' : List Row} {rest : List ℕ} {n k : ℕ}
-    (under : Underway v q begin wanters places facts facts' rest n k) where
+    {v q begin : ℕ} {wanters : Sets} {places : List ℕ} {facts facts' : List FactRow} {rest : List ℕ} {n : ℕ}
+    (under : Underway v q begin wanters places facts facts' rest n) where
   module _ {i : ℕ} (least : LeastMember rest i) where
     -- nobody below it is left
     none_before :
@@ -114,6 +112,10 @@ module _
       not_passed : under.lo ≤ i
       not_passed = leb-true under.lo i ((and-eq-true_iff (leb under.lo i) (within (set_at wanters v q) i)).0 it_is_left).0
 
+      -- there is room for one fact more
+      pub has_room : n < 288
+      has_room = omega (arith, under.passed, under.start, not_passed)
+
       is_leaver :
           {firsts setters : List ℕ} {t : Study} {plan : List ℕ} → Reasonable firsts setters wanters places t plan → leaver t plan v q i ≡ true
       is_leaver known =
@@ -121,19 +123,17 @@ module _
           ∙ ((and-eq-true_iff (leb under.lo i) (within (set_at wanters v q) i)).0 it_is_left).1
 
       pub goes_on :
-          {n' : ℕ} {facts'' : List Row} {rest' : List ℕ} → k < 256 → Removed i rest rest'
-          → length facts'' ≡ 288 → n' ≡ n + 1 → take n' facts'' ≡ take n facts' ++ ((12 ∷ get_or places i 0 ∷ i ∷ v ∷ q ∷ []) ∷ [])
-          → Underway v q begin wanters places facts facts'' rest' n' (k + 1)
-      goes_on {rest' = rest'} h removed size more front = record {
+          {n' : ℕ} {facts'' : List FactRow} {rest' : List ℕ} → Removed i rest rest'
+          → length facts'' ≡ 288 → n' ≡ n + 1 → take n' facts'' ≡ take n facts' ++ (After Leaves (get_or places i 0) i v q ∷ [])
+          → Underway v q begin wanters places facts facts'' rest' n'
+      goes_on {rest' = rest'} removed size more front = record {
         low = under.low;
         narrow = under.narrow;
         start = under.start;
         size = size;
         long = removed.long;
-        few = omega arith;
-        told = omega (arith, under.told);
         lo = i + 1;
-        passed = omega (arith, under.passed, not_passed);
+        passed = omega (arith, more, under.passed, not_passed);
         inside = omega arith;
         left = still_left (set_at wanters v q) rest rest' under.lo i under.left not_passed least removed;
         so_far_lem = λ firsts setters t plan known.
@@ -161,9 +161,3 @@ module _
       LeastMember rest 256 → {firsts setters : List ℕ} {t : Study} {plan : List ℕ} → Reasonable firsts setters wanters places t plan
       → take n facts' ≡ take begin facts ++ rows_of (leave_reasons t plan v q 0 (length t.actions))
   ends_empty least known = told_all known (λ m f g. none_before least known m f g g)
-
-  -- .. nor after 256 turns
-  pub ends_full :
-      256 ≤ k → {firsts setters : List ℕ} {t : Study} {plan : List ℕ} → Reasonable firsts setters wanters places t plan
-      → take n facts' ≡ take begin facts ++ rows_of (leave_reasons t plan v q 0 (length t.actions))
-  ends_full h known = told_all known (λ m f g. absurd (omega (arith, under.passed)))

@@ -10,7 +10,9 @@ use borrow.Author.Tests.{eq-eqb, ne_eqb}
 use Rattle.study.specs.Study.{Study}
 use Rattle.walks.specs.Walks.{var_of, pre_of, start_of}
 use Rattle.walks.proofs.Traces.{setter_of_usable}
-use Rattle.tables.specs.Rows.{Row}
+use Rattle.facts.specs.declared.Fact.{Fact as FactRow}
+use Rattle.facts.specs.declared.Fact.TheVariants.{After}
+use Rattle.facts.specs.declared.Rule.TheVariants.{Next}
 use Rattle.tables.specs.declared.Act.{Act}
 use Rattle.tracing.proofs.Ranges.{pre_small}
 use Rattle.tracing.proofs.Setters.{names_usable}
@@ -22,7 +24,7 @@ use Rattle.reasons.specs.Known.{SetIn, Reasonable, Step}
 
 -- rows that stand behind others, by the facts that they tell
 pub one_behind_another :
-    (a b c : List Fact) {first second third : List Row} → first ≡ rows_of a → second ≡ first ++ rows_of b → third ≡ second ++ rows_of c
+    (a b c : List Fact) {first second third : List FactRow} → first ≡ rows_of a → second ≡ first ++ rows_of b → third ≡ second ++ rows_of c
     → third ≡ rows_of (a ++ (b ++ c))
 one_behind_another a b c e f g =
     rw (g, f, e, map-append row_of a (b ++ c), map-append row_of b c) (append_assoc (rows_of a) (rows_of b) (rows_of c))
@@ -70,8 +72,8 @@ module _
 
       -- .. with the action that the table of setters names, and where its place is looked up
       pub next_told :
-          {y i m : ℕ} {rows : List Row} → y ≡ act.pre → act.pre ≢ get_or firsts x 0 → i ≡ get_or setters (16 * x + y) 0 → m ≡ i
-          → rows ≡ (10 ∷ get_or places m 0 ∷ i ∷ act.var ∷ act.pre ∷ []) ∷ []
+          {y i m : ℕ} {rows : List FactRow} → y ≡ act.pre → act.pre ≢ get_or firsts x 0 → i ≡ get_or setters (16 * x + y) 0 → m ≡ i
+          → rows ≡ After Next (get_or places m 0) i act.var act.pre ∷ []
           → rows ≡ rows_of (set_reason t plan next (var_of t j) (pre_of t j))
       next_told {i = i} is_pre off is is_m told =
           let reason =

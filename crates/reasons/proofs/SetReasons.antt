@@ -11,13 +11,15 @@ use lib.Seq.{take-suc, take-length}
 use Rattle.study.specs.Study.{Condition, Study, condition_at, no_condition}
 use Rattle.lawful.proofs.Conditions.{conditions_few}
 use Rattle.walks.specs.Walks.{conditions_of, start_of, Wants}
-use Rattle.tables.specs.Rows.{Row}
+use Rattle.facts.specs.declared.Fact.{Fact as FactRow}
+use Rattle.facts.specs.declared.Fact.TheVariants.{After}
+use Rattle.facts.specs.declared.Rule.TheVariants.{Sets}
 use Rattle.tables.specs.declared.Act.{Act}
 use Rattle.wanting.specs.Wanting.{StandAt}
 use Rattle.wanting.proofs.Conditions.{Here, wants_at, stands_here, condition_there}
 use Rattle.explained.specs.Facts.{Fact, sets, rows_of}
 use Rattle.explained.specs.Reasons.{set_reason, set_reasons}
-use Rattle.explained.specs.Wanters.{Sets}
+use Rattle.explained.specs.Wanters.{Sets as SetsBy}
 use Rattle.reasons.specs.Known.{SetIn, Reasonable, Step}
 use Rattle.reasons.proofs.Opened.{start_untold, setter_told, stand_there}
 
@@ -44,19 +46,19 @@ pub record Wanting (file : List ℕ) (place many : ℕ) (t : Study) (plan : List
   pub set_wanted : (v q : ℕ) → Wants (conditions_of t j) v q → q ≢ start_of t v → SetIn t plan v q
 
 pub step_wanting :
-    {firsts setters : List ℕ} {wanters : Sets} {places : List ℕ} {t : Study} {plan : List ℕ} {file : List ℕ} {act : Act} {j : ℕ}
+    {firsts setters : List ℕ} {wanters : SetsBy} {places : List ℕ} {t : Study} {plan : List ℕ} {file : List ℕ} {act : Act} {j : ℕ}
     → Reasonable firsts setters wanters places t plan → Step file act t plan j → Wanting file act.place act.many t plan j
 step_wanting known step = record { stand = stand_there known step; set_wanted = step.set_wanted }
 
 -- for every study, plan and action that the tables hold
 abbrev Always : (List ℕ) → (place many : ℕ) → (firsts setters places : List ℕ) → (Study → List ℕ → ℕ → Type 0) → Type 0
 Always file place many firsts setters places P =
-    (wanters : Sets) (t : Study) (plan : List ℕ) (j : ℕ) → Reasonable firsts setters wanters places t plan → Wanting file place many t plan j → P t plan j
+    (wanters : SetsBy) (t : Study) (plan : List ℕ) (j : ℕ) → Reasonable firsts setters wanters places t plan → Wanting file place many t plan j → P t plan j
 
 -- where the pass stands
 pub record Underway
-    (file : List ℕ) (place many begin : ℕ) (firsts setters places : List ℕ) (facts facts' : List Row) (n at k : ℕ) : Type 0 where
-  pub known : (t : Study) × (plan : List ℕ) × (j : ℕ) × (wanters : Sets) × Reasonable firsts setters wanters places t plan × Wanting file place many t plan j
+    (file : List ℕ) (place many begin : ℕ) (firsts setters places : List ℕ) (facts facts' : List FactRow) (n at k : ℕ) : Type 0 where
+  pub known : (t : Study) × (plan : List ℕ) × (j : ℕ) × (wanters : SetsBy) × Reasonable firsts setters wanters places t plan × Wanting file place many t plan j
   pub start : begin ≤ 1
   pub size : length facts' ≡ 288
   pub few : k ≤ many
@@ -66,9 +68,9 @@ pub record Underway
       Always file place many firsts setters places (λ t plan j. take n facts' ≡ take begin facts ++ rows_of (set_reasons t plan (take k (conditions_of t j))))
 
 pub begins :
-    {file : List ℕ} {place many begin : ℕ} {firsts setters places : List ℕ} {facts : List Row}
+    {file : List ℕ} {place many begin : ℕ} {firsts setters places : List ℕ} {facts : List FactRow}
     → begin ≤ 1 → length facts ≡ 288
-    → (t : Study) × (plan : List ℕ) × (j : ℕ) × (wanters : Sets) × Reasonable firsts setters wanters places t plan × Wanting file place many t plan j
+    → (t : Study) × (plan : List ℕ) × (j : ℕ) × (wanters : SetsBy) × Reasonable firsts setters wanters places t plan × Wanting file place many t plan j
     → Underway file place many begin firsts setters places facts facts begin place 0
 unfolding set_reasons
 begins start size known = record {
@@ -82,7 +84,7 @@ begins start size known = record {
 }
 
 module _
-    {file : List ℕ} {place many begin : ℕ} {firsts setters places : List ℕ} {facts facts' : List Row} {n at k : ℕ}
+    {file : List ℕ} {place many begin : ℕ} {firsts setters places : List ℕ} {facts facts' : List FactRow} {n at k : ℕ}
     (under : Underway file place many begin firsts setters places facts facts' n at k) where
   pub few_conditions : many ≤ 31
   few_conditions =
@@ -95,11 +97,11 @@ module _
     here = let (t, plan, j, wanters, r, w) = under.known in (condition_at (conditions_of t j) k, stands_here w.stand at k under.is_at h)
 
     -- the facts that are told of it
-    abbrev Tells : ℕ → ℕ → List Row → Type 0
+    abbrev Tells : ℕ → ℕ → List FactRow → Type 0
     Tells x y rows = Always file place many firsts setters places (λ t plan j. rows_of (set_reason t plan sets x y) ≡ rows)
 
     passes :
-        {x y n' : ℕ} {facts'' : List Row} (rows : List Row) → x ≡ get_or file (at + 1) 0 → y ≡ get_or file (at + 2) 0
+        {x y n' : ℕ} {facts'' : List FactRow} (rows : List FactRow) → x ≡ get_or file (at + 1) 0 → y ≡ get_or file (at + 2) 0
         → length facts'' ≡ 288 → n' ≤ n + 1 → Tells x y rows → take n' facts'' ≡ take n facts' ++ rows
         → Underway file place many begin firsts setters places facts facts'' n' (at + 3) (k + 1)
     passes {x} {y} rows is_var is-value size more tells front = record {
@@ -134,12 +136,12 @@ module _
 
       -- .. as it is read again, with the action that the table of setters names, and where its place is looked up
       pub goes_on :
-          {z i m n' : ℕ} {facts'' : List Row} → y ≢ get_or firsts x 0 → z ≡ y → i ≡ get_or setters (16 * x + z) 0 → m ≡ i
+          {z i m n' : ℕ} {facts'' : List FactRow} → y ≢ get_or firsts x 0 → z ≡ y → i ≡ get_or setters (16 * x + z) 0 → m ≡ i
           → length facts'' ≡ 288 → n' ≡ n + 1
-          → take n' facts'' ≡ take n facts' ++ ((11 ∷ get_or places m 0 ∷ i ∷ get_or file (at + 1) 0 ∷ y ∷ []) ∷ [])
+          → take n' facts'' ≡ take n facts' ++ (After Sets (get_or places m 0) i (get_or file (at + 1) 0) y ∷ [])
           → Underway file place many begin firsts setters places facts facts'' n' (at + 3) (k + 1)
       goes_on {i = i} off is-z is is_m size more front =
-          passes ((11 ∷ get_or places i 0 ∷ i ∷ x ∷ y ∷ []) ∷ []) is_var is-value size (omega arith)
+          passes (After Sets (get_or places i 0) i x y ∷ []) is_var is-value size (omega arith)
           (λ wanters t plan j r w. ap rows_of (setter_told r sets (there w) off (set_here w) (rw is-z at is))) (rw (is_m, ← is_var) at front)
         where
           set_here : {t : Study} {plan : List ℕ} {j : ℕ} → Wanting file place many t plan j → y ≢ start_of t x → SetIn t plan x y
@@ -148,9 +150,9 @@ module _
               w.set_wanted x y (rw (is_var, is-value, s.var, s.value) (wants_at (conditions_of t j) k (omega (arith, w.stand.holds.count))))
 
 pub ends :
-    {file : List ℕ} {place many begin : ℕ} {firsts setters places : List ℕ} {facts facts' : List Row} {n at k : ℕ}
+    {file : List ℕ} {place many begin : ℕ} {firsts setters places : List ℕ} {facts facts' : List FactRow} {n at k : ℕ}
     → Underway file place many begin firsts setters places facts facts' n at k → many ≤ k
-    → (wanters : Sets) (t : Study) (plan : List ℕ) (j : ℕ) → Reasonable firsts setters wanters places t plan → Wanting file place many t plan j
+    → (wanters : SetsBy) (t : Study) (plan : List ℕ) (j : ℕ) → Reasonable firsts setters wanters places t plan → Wanting file place many t plan j
     → take n facts' ≡ take begin facts ++ rows_of (set_reasons t plan (conditions_of t j))
 ends {k = k} under h wanters t plan j r w =
     let e : k ≡ length (conditions_of t j) = omega (arith, under.few, w.stand.holds.count) in

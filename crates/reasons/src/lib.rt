@@ -6,17 +6,13 @@ ghost use Rattle.bits.specs.Bits.{within};
 ghost use Rattle.study.specs.Study.{Study};
 ghost use Rattle.walks.specs.Walks.{var_of, pre_of, conditions_of};
 ghost use Rattle.tables.specs.Rows.{start_column};
-ghost use Rattle.explained.specs.Facts.{Rule, next, rows_of};
+ghost use Rattle.explained.specs.Facts.{next, rows_of};
 ghost use Rattle.explained.specs.Reasons.{set_reason, set_reasons, leave_reasons, reasons_of, step_of, stands};
 ghost use Rattle.explained.specs.Wanters.{set_at};
 ghost use Rattle.reasons.specs.Known.{Placed, Reasonable, Step};
 
+use facts::{Fact, Rule};
 use tables::Act;
-
-// The kinds of reasons by rules (b) and (c), behind that by (a).
-const SETS: u8 = 11;
-
-const LEAVES: u8 = 12;
 
 // Rule (a): the action that sets what this one leaves, unless that is the start.
 fn by_next(
@@ -24,7 +20,7 @@ fn by_next(
     vars: &[[u8; 3]; 32],
     setters: &[u8; 512],
     places: &[u8; 256],
-    facts: &mut [[u8; 5]; 288],
+    facts: &mut [Fact; 288],
 ) -> usize
     requires { (act.var < 32) × (act.pre < 16) × (length facts.old ≡ 288) }
     ensures upper_bound { (result ≤ 1) × (length facts.new ≡ 288) }
@@ -39,15 +35,14 @@ fn by_next(
         return 0;
     }
     let i = setters[16 * v + tables::wide(act.pre)];
-    facts::add(
-        facts,
-        0,
-        facts::AFTER,
-        places[tables::wide(i)],
-        i,
-        act.var,
-        act.pre,
-    )
+    let reason = Fact::After {
+        rule: Rule::Next,
+        step: places[usize::from(i)],
+        action: i,
+        variable: act.var,
+        value: act.pre,
+    };
+    facts::add(facts, 0, reason)
 }
 
 // Rule (b): for each condition, in order, the action that sets what it wants, unless that is the start.
@@ -58,7 +53,7 @@ fn by_sets(
     vars: &[[u8; 3]; 32],
     setters: &[u8; 512],
     places: &[u8; 256],
-    facts: &mut [[u8; 5]; 288],
+    facts: &mut [Fact; 288],
 ) -> usize
     requires { (begin ≤ 1) × (length facts.old ≡ 288)
         × ((t : Study) × (plan : List ℕ) × (j : ℕ) × (sets : List (List ℕ))
@@ -69,21 +64,24 @@ fn by_sets(
         → Step file.now act t plan j
         → take result facts.new ≡ take begin facts.old ++ rows_of (set_reasons t plan (conditions_of t j)) }
 {
-    let many = act.many;
     let mut n = begin;
-    let mut at = act.place;
-    let mut k = 0;
-    while k < many {
+    for k in 0..act.many {
+        let at = act.place + 3 * k as usize;
         let u = file[at + 1];
         let q = file[at + 2];
         let v = tables::wide(u);
         let var = tables::variable_at(vars, v);
         if q != var.start {
             let i = setters[16 * v + tables::wide(q)];
-            n = facts::add(facts, n, SETS, places[tables::wide(i)], i, u, q);
+            let reason = Fact::After {
+                rule: Rule::Sets,
+                step: places[usize::from(i)],
+                action: i,
+                variable: u,
+                value: q,
+            };
+            n = facts::add(facts, n, reason);
         }
-        at += 3;
-        k += 1;
     }
     n
 }
@@ -102,7 +100,7 @@ fn by_leaves(
     begin: usize,
     wanters: &[[u64; 4]; 512],
     places: &[u8; 256],
-    facts: &mut [[u8; 5]; 288],
+    facts: &mut [Fact; 288],
 ) -> usize
     requires { (act.var < 32) × (act.pre < 16) × (begin ≤ 32) × (length facts.old ≡ 288) }
     ensures upper_bound { (result ≤ 288) × (length facts.new ≡ 288) }
@@ -113,23 +111,16 @@ fn by_leaves(
 {
     let mut rest = wanters_of(wanters, act.var, act.pre);
     let mut n = begin;
-    let mut k = 0usize;
-    while k < 256 {
-        let i = bits::least(&rest);
-        if i == bits::NONE {
-            return n;
-        }
-        bits::remove(&mut rest, i as u8);
-        n = facts::add(
-            facts,
-            n,
-            LEAVES,
-            places[i as usize],
-            i as u8,
-            act.var,
-            act.pre,
-        );
-        k += 1;
+    while let Some(i) = bits::least(&rest) {
+        bits::remove(&mut rest, i);
+        let reason = Fact::After {
+            rule: Rule::Leaves,
+            step: places[i as usize],
+            action: i,
+            variable: act.var,
+            value: act.pre,
+        };
+        n = facts::add(facts, n, reason);
     }
     n
 }
@@ -142,7 +133,7 @@ pub fn of_step(
     setters: &[u8; 512],
     wanters: &[[u64; 4]; 512],
     places: &[u8; 256],
-    facts: &mut [[u8; 5]; 288],
+    facts: &mut [Fact; 288],
 ) -> usize
     requires { (length facts.old ≡ 288)
         × ((t : Study) × (plan : List ℕ) × (j : ℕ)
@@ -164,10 +155,8 @@ pub fn place_all(plan: &[u8], places: &mut [u8; 256])
         × ((j k : ℕ) → j < k → k < length plan.now → get_or plan.now j 0 ≡ get_or plan.now k 0 → ⊥) }
     ensures { Placed plan.now places.new }
 {
-    let mut k = 0;
-    while k < plan.len() {
-        places[tables::wide(plan[k])] = k as u8;
-        k += 1;
+    for (k, action) in plan.iter().enumerate() {
+        places[usize::from(*action)] = k as u8;
     }
 }
 
@@ -177,9 +166,7 @@ pub fn gather(plan: &[u8], some: &mut [u64; 4])
     ensures { (length some.new ≡ 4)
         × (((i : ℕ) → within some.old i ≡ false) → (i : ℕ) → within some.new i ≡ stands plan.now i) }
 {
-    let mut k = 0;
-    while k < plan.len() {
-        bits::add(some, plan[k]);
-        k += 1;
+    for action in plan {
+        bits::add(some, *action);
     }
 }

@@ -1,39 +1,44 @@
 -- A straight plan of what was loaded, ready to be told: where its steps stand, who sets what they leave and want, and who wants it.
 -- Assumes nothing.
-use mathlib.Core.Path.{◌≡◌, sym, ◌∙◌}
+use mathlib.Core.Path.{◌≡◌, refl, ◌∙◌}
 use mathlib.Core.Logic.{◌≢◌}
-use mathlib.Core.Bool.{Bool, true, ◌&&◌}
+use mathlib.Core.Bool.{true}
 use mathlib.Core.List.{List}
-use Prim.Native.Nat.{ℕ, ◌≤◌, ◌<◌}
+use Prim.Native.Nat.{ℕ, ◌<◌}
 use native.Mathlib.Omega.{arith}
-use lib.Dec.{ltb}
 use lib.ListN.{length, get_or}
+use Rattle.std.specs.Prelude.{Result, Ok, Err, IsOk}
+use Rattle.answer.specs.declared.Refusal.{Refusal}
 use Rattle.bits.specs.Bits.{within}
 use Rattle.study.specs.Study.{Study}
 use Rattle.study.specs.Reading.{says, reading_for}
 use Rattle.lawful.specs.Lawful.{Lawful}
 use Rattle.plans.specs.Plans.{StraightPlan}
-use Rattle.orders.specs.Orders.{In}
 use Rattle.orders.proofs.Lists.{entry_in, distinct_entries_differ}
 use Rattle.orders.proofs.Members.{order_has_all}
 use Rattle.tables.specs.Tables.{Tables, Holds, Loads}
 use Rattle.tables.specs.declared.Loaded.{Loaded}
-use Rattle.tables.specs.declared.Loaded.TheVariants as Load
 use Rattle.walks.specs.Walks.{var_of, pre_of, start_of, conditions_of, OnAWalk, ComesBefore, ValueOnWalk, Wants}
 use Rattle.walks.proofs.Leads.{on_walk_usable}
 use Rattle.walks.proofs.Ordered.{straight_met, straight_is_order}
 use Rattle.walks.proofs.Wanted.{wanted_there}
-use Rattle.wanting.specs.Wanting.{wants}
 use Rattle.explained.specs.Reasons.{stands}
 use Rattle.explained.specs.Wanters.{Sets, Noted}
 use Rattle.explained.proofs.Reasons.{in_stands, set_on_walk, left_on_walk, on_walk_lem, once}
 use Rattle.reasons.specs.Known.{SetIn, Placed, Reasonable}
 
--- what is loaded of a file for a crew to which it says a study holds that
+-- a file that says a study to a crew loads for it
+pub loads_there :
+    (file : List ℕ) (crew : ℕ) (t : Study) (tables : Tables) (found : Result Loaded Refusal)
+    → reading_for file crew ≡ says t → Loads file crew tables found → IsOk found
+loads_there file crew t tables (Ok loaded) said loads = refl
+loads_there file crew t tables (Err refusal) said refuses = absurd (let z : ◌≡◌ {A = ℕ} 0 1 = cc in omega arith)
+
+-- .. and what is loaded holds that study
 pub loads_holds :
-    (file : List ℕ) (crew : ℕ) (t : Study) {tables : Tables} {nv na x : ℕ}
-    → reading_for file crew ≡ says t → Loads file crew tables (Load.Study nv na x) → Holds file nv na x tables t
-loads_holds file crew t {tables} {nv} {na} {x} said (s, other, holds) = let same : s ≡ t = cc in rw same at holds
+    (file : List ℕ) (crew : ℕ) (t : Study) {tables : Tables} {l : Loaded}
+    → reading_for file crew ≡ says t → Loads file crew tables (Ok l) → Holds file l.vars l.actions l.seed tables t
+loads_holds file crew t said (s, other, holds) = let same : s ≡ t = cc in rw same at holds
 
 module _ {file : List ℕ} {nv na x : ℕ} {tables : Tables} {t : Study} (lawful : Lawful t) (holds : Holds file nv na x tables t) where
   module _ {plan : List ℕ} (straight : StraightPlan t plan) where

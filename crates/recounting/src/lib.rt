@@ -8,8 +8,6 @@ ghost use Rattle.plans.specs.Plans.{StraightPlan};
 ghost use Rattle.explained.specs.Explained.{step_text};
 ghost use Rattle.recounting.specs.Ready.{Ready};
 
-use tables::Loaded;
-
 const STDOUT_FILENO: i32 = 1;
 
 // A plan for a crew with the reasons of its steps, a piece for each step.
@@ -19,21 +17,13 @@ pub fn print_plan(file: &[u8], crew: u64, plan: &[u8])
     let mut acts = [[0u8; 6]; 256];
     let mut vars = [[0u8; 3]; 32];
     let mut setters = [0u8; 512];
-    let loaded = mustering::load_for(file, crew, &mut acts, &mut vars, &mut setters);
-    let Loaded::Study {
-        vars: _,
-        actions,
-        seed: _,
-    } = loaded
-    else {
-        return;
-    };
+    let loaded = mustering::load_for(file, crew, &mut acts, &mut vars, &mut setters).unwrap();
     let mut some = [0u64; 4];
     reasons::gather(plan, &mut some);
     let mut places = [0u8; 256];
     reasons::place_all(plan, &mut places);
     let mut wanters = [[0u64; 4]; 512];
-    wanters::note_all(file, actions, &some, &acts, &mut wanters);
+    wanters::note_all(file, loaded.actions, &some, &acts, &mut wanters);
     print_steps(file, plan, &acts, &vars, &setters, &wanters, &places);
 }
 
@@ -51,13 +41,11 @@ fn print_steps(
     let mut out = [0u8; 8423];
     let n = telling::first(plan.len(), &mut out);
     io::write_all(STDOUT_FILENO, &out[..n]);
-    let mut k = 0;
-    while k < plan.len() {
+    for k in 0..plan.len() {
         let end = tell_step(
             file, k, plan, acts, vars, setters, wanters, places, &mut out,
         );
         io::write_all(STDOUT_FILENO, &out[..end]);
-        k += 1;
     }
 }
 
@@ -83,7 +71,7 @@ fn tell_step(
     let action = tables::wide(plan[k]);
     let act = tables::action_at(acts, action);
     let begin = telling::step(out, 0, k, action, act.var, act.pre, act.post);
-    let mut facts = [[0u8; 5]; 288];
+    let mut facts = [facts::NONE; 288];
     let n = reasons::of_step(file, act, vars, setters, wanters, places, &mut facts);
-    wording::lines(&facts, n, out, begin)
+    wording::lines(&facts[..n], out, begin)
 }

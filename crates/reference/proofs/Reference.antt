@@ -11,9 +11,9 @@ use lib.ListN.{length, drop}
 use Rattle.plain.specs.Choose.{pick}
 use Rattle.answer.specs.Answers.{done, refusal}
 use Rattle.answer.specs.declared.Answer.{Answer}
-use Rattle.ranking.specs.Ranking.{tested}
-use Rattle.ranking.specs.declared.Tested.{Tested}
-use Rattle.ranking.specs.declared.Tested.TheVariants.{Fine, Length, Entry}
+use Rattle.ranking.specs.Ranking.{Tested, tested}
+use Rattle.std.specs.Prelude.{Ok, Err}
+use Rattle.ranking.specs.declared.Unranked.TheVariants.{Length, Entry}
 use Rattle.ranking.proofs.Fine.{fine_is_rank_list}
 use Rattle.study.specs.Study.{Study}
 use Rattle.study.specs.Reading.{Said, says, refused}
@@ -64,9 +64,9 @@ unless_barred (some r) before o = gives r before
 
 -- 9
 abbrev pub if_fine : Tested → List ℕ → List ℕ → Outcome → Outcome
-if_fine Fine ranks before o = o
-if_fine Length ranks before o = gives (not_ranked (length ranks) Length) before
-if_fine (Entry k) ranks before o = gives (not_ranked (length ranks) (Entry k)) before
+if_fine (Ok tt) ranks before o = o
+if_fine (Err Length) ranks before o = gives (not_ranked (length ranks) (Err Length)) before
+if_fine (Err (Entry k)) ranks before o = gives (not_ranked (length ranks) (Err (Entry k))) before
 
 unfoldable pub planned : Study → List ℕ → List ℕ → Outcome
 planned t ranks before =
@@ -94,7 +94,7 @@ module _ {t : Study} (lawful : Lawful t) where
     abbrev Allowed : Outcome → Type 0
     Allowed o = Plans t ranks before o.answer o.bytes
 
-    laid_allowed : (list : List ℕ) → tested ranks (length t.actions) ≡ Fine → FirstPlan t ranks list → Allowed (laid list before)
+    laid_allowed : (list : List ℕ) → tested ranks (length t.actions) ≡ Ok tt → FirstPlan t ranks list → Allowed (laid list before)
     laid_allowed list fine first = go (says_below (length before) (length list))
       where
         go :
@@ -110,7 +110,7 @@ module _ {t : Study} (lawful : Lawful t) where
         list : List ℕ
         list = chosen t ranks
 
-        left : tested ranks (length t.actions) ≡ Fine → Walks t → Met t
+        left : tested ranks (length t.actions) ≡ Ok tt → Walks t → Met t
             → {o : Option ℕ} → Least (λ x. In x list → ⊥) (λ i. i) (walk_actions t) o → Allowed (unless_left o list before)
         left fine walks met (is_none n) =
             laid_allowed list fine (greedy_is_first_plan lawful walks met (fine_is_rank_list fine) (chosen_is_greedy ranks)
@@ -122,7 +122,7 @@ module _ {t : Study} (lawful : Lawful t) where
             in
             ring fine walks met stuck.0.1 stuck.1
 
-        bars : tested ranks (length t.actions) ≡ Fine → {o : Option Answer} → Bar t o
+        bars : tested ranks (length t.actions) ≡ Ok tt → {o : Option Answer} → Bar t o
             → Allowed (unless_barred o before (unless_left (left_out_lem t list) list before))
         bars fine (lacks_walk l) = no_walk fine l
         bars fine (off_its_walk walks l) = off_walk_lem fine walks l
@@ -130,9 +130,9 @@ module _ {t : Study} (lawful : Lawful t) where
 
         go : (r : Tested) → tested ranks (length t.actions) ≡ r
             → Allowed (if_fine r ranks before (unless_barred (barred t) before (unless_left (left_out_lem t list) list before)))
-        go Fine e = bars e (bar_tells lawful)
-        go Length e = wrong_length e
-        go (Entry k) e = wrong_entry e
+        go (Ok tt) e = bars e (bar_tells lawful)
+        go (Err Length) e = wrong_length e
+        go (Err (Entry k)) e = wrong_entry e
 
 pub planned_file_allowed :
     (said : Said Study) → LawfulIfHeard said → (ranks before : List ℕ)

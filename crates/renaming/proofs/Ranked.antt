@@ -8,8 +8,8 @@ use Rattle.study.specs.Study.{Study}
 use Rattle.walks.specs.Walks.{OnAWalk}
 use Rattle.walks.proofs.Leads.{on_walk_usable}
 use Rattle.ordering.specs.Ordering.{Ordered, OrdersAll}
-use Rattle.ordering.specs.declared.Found.{Found}
-use Rattle.ordering.specs.declared.Found.TheVariants.{Members, Off}
+use Rattle.std.specs.Prelude.{Result, Ok, Err}
+use Rattle.wanting.specs.declared.Off.{Off}
 use Rattle.renaming.specs.Renaming.{ByAction, OrdersByAction, Renamed, Reworded}
 
 -- ---- each action is its own rank
@@ -26,9 +26,9 @@ module _ (t : Study) (own words : List ℕ) (itself : (i : ℕ) → i < length t
     sound = λ i j on to h. ordered.sound i j on to (rw (itself i (walk_low on), itself j (walk_low to)) h);
   }
 
-  pub own_orders : (found : Found) → OrdersAll t own words found → OrdersByAction t words found
-  own_orders (Members m) (met, ordered) = (met, own_ordered ordered)
-  own_orders (Off i u) off = off
+  pub own_orders : (found : Result ℕ Off) → OrdersAll t own words found → OrdersByAction t words found
+  own_orders (Ok m) (met, ordered) = (met, own_ordered ordered)
+  own_orders (Err o) off = off
 
 -- ---- under the ranks of a list
 

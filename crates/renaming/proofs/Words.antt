@@ -16,16 +16,6 @@ use Rattle.bits.proofs.Changed.{put_here, put_stays, put_only, out_stays, out_on
 use Rattle.ranks.specs.Ranks.{Apart}
 use Rattle.renaming.specs.Renaming.{Below, Renamed, Standing, Reworded}
 
--- entry i stored is as it should be, and so are those before it
-pub stored_more :
-    (f : ℕ → ℕ) (l : List ℕ) (i : ℕ) → i < length l → ((j : ℕ) → j < i → get_or l j 0 ≡ f j)
-    → (j : ℕ) → j < i + 1 → get_or (set l i (f i)) j 0 ≡ f j
-stored_more f l i h so j g = go (ℕ_discrete j i)
-  where
-    go : Dec (j ≡ i) → get_or (set l i (f i)) j 0 ≡ f j
-    go (yes e) = rw e (get_or-set_same l i (f i) 0 h)
-    go (no d) = get_or-set_other l i j (f i) 0 d ∙ so j (omega (arith, d))
-
 pub none_in_zero : {word : ℕ} → word ≡ 0 → (i : ℕ) → bit word i ≡ true → ⊥
 none_in_zero e i h = false≢true (sym (bit_zero i) ∙ ap (λ (n : ℕ). bit n i) (sym e) ∙ h)
 

@@ -1,12 +1,11 @@
 -- The direct orders among the walk actions of a study, by action; and sets of actions, as bits of words, put under the ranks of a list.
 -- Assumes nothing.
-use Rattle.std.specs.Prelude.{ℕ, ◌<◌, ◌≡◌, true, List, get_or}
+use Rattle.std.specs.Prelude.{ℕ, ◌<◌, ◌≡◌, true, List, get_or, Result, Ok, Err}
 use Rattle.bits.specs.Bits.{bit}
 use Rattle.study.specs.Study.{Study}
 use Rattle.walks.specs.Walks.{OnAWalk, ComesBefore, Met}
 use Rattle.planning.specs.Planning.{LowestOff}
-use Rattle.ordering.specs.declared.Found.{Found}
-use Rattle.ordering.specs.declared.Found.TheVariants.{Members, Off}
+use Rattle.wanting.specs.declared.Off.{Off}
 
 -- bit i of the members is set for each walk action i, and bit i of word j where i comes directly before j
 pub record ByAction (t : Study) (members : ℕ) (words : List ℕ) : Type 0 where
@@ -15,9 +14,9 @@ pub record ByAction (t : Study) (members : ℕ) (words : List ℕ) : Type 0 wher
   pub complete : (i j : ℕ) → OnAWalk t i → OnAWalk t j → ComesBefore t i j → bit (get_or words j 0) i ≡ true
   pub sound : (i j : ℕ) → OnAWalk t i → OnAWalk t j → bit (get_or words j 0) i ≡ true → ComesBefore t i j
 
-abbrev pub OrdersByAction : Study → List ℕ → Found → Type 0
-OrdersByAction t words (Members m) = Met t × ByAction t m words
-OrdersByAction t words (Off i u) = LowestOff t i u
+abbrev pub OrdersByAction : Study → List ℕ → Result ℕ Off → Type 0
+OrdersByAction t words (Ok m) = Met t × ByAction t m words
+OrdersByAction t words (Err o) = LowestOff t o.action o.var
 
 -- the word has numbers below n alone
 abbrev pub Below : ℕ → ℕ → Type 0

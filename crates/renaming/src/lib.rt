@@ -8,17 +8,15 @@ ghost use Rattle.marking.specs.Marking.{Ranked};
 ghost use Rattle.ordering.specs.Ordering.{OrderableIn};
 ghost use Rattle.renaming.specs.Renaming.{Below, Renamed, Reworded, OrdersByAction};
 
-use ordering::Found;
+use wanting::Off;
 
 // Numbers each action by itself.
 fn number_all(ranks: &mut [u8; 64])
     requires { length ranks.old ≡ 64 }
     ensures { (length ranks.new ≡ 64) × ((i : ℕ) → i < 64 → get_or ranks.new i 0 ≡ i) }
 {
-    let mut i = 0;
-    while i < 64 {
-        ranks[i] = i as u8;
-        i += 1;
+    for (i, rank) in ranks.iter_mut().enumerate() {
+        *rank = i as u8;
     }
 }
 
@@ -31,7 +29,7 @@ pub fn order_by_action(
     setters: &[u8; 512],
     steps: &[u16; 512],
     words: &mut [u64; 64],
-) -> Found
+) -> Result<u64, Off>
     requires { (length words.old ≡ 64) × (actions ≤ 64)
         × ((t : Study) × OrderableIn file.now actions acts.now vars.now setters.now steps.now t) }
     ensures words_len { length words.new ≡ 64 }

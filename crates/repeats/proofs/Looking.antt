@@ -4,39 +4,22 @@ use mathlib.Core.Path.{◌≡◌, refl, sym, ap, ◌∙◌, subst}
 use mathlib.Core.Bool.{true, false, ◌&&◌, ◌||◌, or-false, or_comm}
 use mathlib.Core.Option.{none, some}
 use mathlib.Core.List.{List, [], ◌∷◌, ◌++◌}
-use Prim.Native.Nat.{ℕ, zero, suc, ◌+◌, ◌*◌, ◌%◌, ◌≤◌, ◌<◌}
-use native.Mathlib.Decide.{ℕ_discrete}
+use Prim.Native.Nat.{ℕ, suc, ◌+◌, ◌*◌, ◌%◌, ◌<◌}
 use native.Mathlib.Omega.{arith}
 use lib.Dec.{eqb}
 use lib.ListN.{length, get_or, drop, replicate}
-use borrow.Author.Tests.{eq-eqb, ne_eqb}
-use Rattle.bits.specs.Bits.{bit, within}
-use Rattle.bits.proofs.Members.{fresh_empty}
+use Rattle.bits.specs.Bits.{bit}
+use Rattle.bits.proofs.Words.{bit_zero}
+use Rattle.bits.proofs.Members.{zero_words}
 use Rattle.plain.proofs.Lists.{length_more}
 use Rattle.study.specs.Study.{Condition, Action, in_force}
 use Rattle.study.specs.Reading.{sets_to, sets, repeat_from}
 use Rattle.study.proofs.Setters.{sets_more}
 use Rattle.lawful.specs.Lengths.{bytes_of_times, places_from}
 use Rattle.spelling.specs.Lent.{unlent_condition, first_of, left, actions_in}
-use Rattle.spelling.proofs.LentBytes.{five_bytes, so_many_first}
-use Rattle.repeats.specs.Repeats.{entry_length_lem, place_of, Small}
-
--- the mark of a variable's value
-abbrev mark_of : ℕ → ℕ → ℕ
-mark_of v q = 16 * v + q
-
-one_mark_each : (v q w r : ℕ) → q < 16 → r < 16 → eqb (mark_of v q) (mark_of w r) ≡ (eqb v w && eqb q r)
-one_mark_each v q w r few many = go (ℕ_discrete v w) (ℕ_discrete q r)
-  where
-    go : Dec (v ≡ w) → Dec (q ≡ r) → eqb (mark_of v q) (mark_of w r) ≡ (eqb v w && eqb q r)
-    go (yes e) (yes f) = rw (e, f, eq-eqb w w refl, eq-eqb r r refl) (eq-eqb (mark_of w r) (mark_of w r) refl)
-    go (yes e) (no g) = rw (e, eq-eqb w w refl, ne_eqb q r g) (ne_eqb (mark_of w q) (mark_of w r) (λ f. g (omega arith)))
-    go (no g) _ = rw (ne_eqb v w g) (ne_eqb (mark_of v q) (mark_of w r) (λ f. g (omega arith)))
-
--- no entry stands before the first
-pub after_front : (front : ℕ) (actions : List ℕ) (k : ℕ) → front ≤ place_of front actions k
-after_front front actions zero = omega arith
-after_front front actions (suc k) = omega (arith, after_front front actions k)
+use Rattle.spelling.proofs.LentBytes.{so_many_first}
+use Rattle.spelling.proofs.Chunks.{Chunk, five_first}
+use Rattle.repeats.specs.Repeats.{entry_length_lem, Small}
 
 -- fewer bytes than an entry's stand for an action that is not small, or for none
 none_of_few : (bytes : List ℕ) (conditions : List Condition) → length bytes < 5 → Small (actions_in bytes conditions) → actions_in bytes conditions ≡ []
@@ -56,17 +39,17 @@ module _ (situation front : ℕ) (actions : List ℕ) (all : List Action) where
     conditions : List Condition
     small : Small (actions_in (drop i actions) conditions)
     none_yet : repeat_from situation [] all ≡ repeat_from situation earlier (actions_in (drop i actions) conditions)
-    marked : (v q : ℕ) → q < 16 → within marks (mark_of v q) ≡ sets situation earlier v q
+    marked : (v q : ℕ) → bit (get_or marks v 0) q ≡ sets situation earlier v q
     places : (j k : ℕ) → j ≡ length earlier + k → get_or (places_from front all) j 0 ≡ get_or (places_from place (actions_in (drop i actions) conditions)) k 0
 
-  pub nothing_looked : (conditions : List Condition) → all ≡ actions_in actions conditions → Small all → Looked (replicate 8 0) front 0
+  pub nothing_looked : (conditions : List Condition) → all ≡ actions_in actions conditions → Small all → Looked (replicate 32 0) front 0
   unfolding sets
   nothing_looked conditions e small = record {
     earlier = [];
     conditions = conditions;
     small = subst Small e small;
     none_yet = ap (repeat_from situation []) e;
-    marked = λ v q _. fresh_empty 8 (mark_of v q);
+    marked = λ v q. rw (zero_words 32 v) (bit_zero q);
     places = λ j k f. let same : j ≡ k = omega arith in rw (e, same);
   }
 
@@ -75,20 +58,20 @@ module _ (situation front : ℕ) (actions : List ℕ) (all : List Action) where
   unfolding repeat_from
   none_left {i = i} h l = l.none_yet ∙ rw (none_of_few (drop i actions) l.conditions h l.small)
 
-  module _ {marks : List ℕ} {place i : ℕ} (l : Looked marks place i) (h : i + 5 ≤ length actions) where
+  module _ {marks entry : List ℕ} {place n : ℕ} (l : Looked marks place (5 * n)) (c : Chunk 5 actions n entry) where
     abbrev byte : ℕ → ℕ
-    byte k = get_or actions (i + k) 0
+    byte k = get_or entry k 0
 
     abbrev this : Action
     this =
-        record { var = get_or actions i 0; pre = byte 1; post = byte 2; conditions = first_of unlent_condition (byte 4) l.conditions; situations = byte 3 }
+        record { var = byte 0; pre = byte 1; post = byte 2; conditions = first_of unlent_condition (byte 4) l.conditions; situations = byte 3 }
 
     abbrev rest : List Action
-    rest = actions_in (drop (i + 5) actions) (drop (byte 4) l.conditions)
+    rest = actions_in (drop (5 * (n + 1)) actions) (drop (byte 4) l.conditions)
 
-    this_first : actions_in (drop i actions) l.conditions ≡ this ∷ rest
+    this_first : actions_in (drop (5 * n) actions) l.conditions ≡ this ∷ rest
     unfolding actions_in
-    this_first = rw (five_bytes actions i h)
+    this_first = rw (five_first c)
 
     none_yet_here : repeat_from situation [] all ≡ repeat_from situation l.earlier (this ∷ rest)
     none_yet_here = l.none_yet ∙ ap (repeat_from situation l.earlier) this_first
@@ -99,30 +82,33 @@ module _ (situation front : ℕ) (actions : List ℕ) (all : List Action) where
     small_here : Small (this ∷ rest)
     small_here = subst Small this_first l.small
 
-    -- the remainders that keep the mark below 512 change nothing
-    its_mark : 16 * (this.var % 32) + this.post % 16 ≡ mark_of this.var this.post
-    its_mark = omega (arith, (small_here 0 (omega arith)).0, (small_here 0 (omega arith)).1)
+    -- the remainders change nothing
+    its_var : this.var % 32 ≡ this.var
+    its_var = omega (arith, (small_here 0 (omega arith)).0)
+
+    its_post : this.post % 16 ≡ this.post
+    its_post = omega (arith, (small_here 0 (omega arith)).1)
 
     pub found :
-        bit (byte 3) situation ≡ true → within marks (16 * (this.var % 32) + this.post % 16) ≡ true
+        bit (byte 3) situation ≡ true → bit (get_or marks (this.var % 32) 0) (this.post % 16) ≡ true
         → (k : ℕ) × ((repeat_from situation [] all ≡ some k) × (get_or (places_from front all) k 0 ≡ place))
     unfolding repeat_from places_from in_force
     found in_force_lem there =
-        let set_before = sym (l.marked this.var this.post (small_here 0 (omega arith)).1) ∙ ap (within marks) (sym its_mark) ∙ there in
+        let set_before = sym (l.marked this.var this.post) ∙ (rw (its_var, its_post) at there) in
         (length l.earlier, (none_yet_here ∙ rw (in_force_lem, set_before), places_here (length l.earlier) 0 (omega arith)))
 
     -- the next entry, where this action does not repeat
     next :
         {marks' : List ℕ} → (in_force situation this && sets situation l.earlier this.var this.post) ≡ false
-        → ((v q : ℕ) → q < 16 → within marks' (mark_of v q) ≡ (sets situation l.earlier v q || sets_to situation this v q))
-        → Looked marks' (place + entry_length_lem (byte 3) (byte 4)) (i + 5)
+        → ((v q : ℕ) → bit (get_or marks' v 0) q ≡ (sets situation l.earlier v q || sets_to situation this v q))
+        → Looked marks' (place + entry_length_lem (byte 3) (byte 4)) (5 * (n + 1))
     unfolding repeat_from places_from
     next not-this marked' = record {
       earlier = l.earlier ++ (this ∷ []);
       conditions = drop (byte 4) l.conditions;
       small = λ k less. small_here (suc k) (omega arith);
       none_yet = none_yet_here ∙ rw not-this;
-      marked = λ v q few. marked' v q few ∙ sym (sets_more situation l.earlier this v q);
+      marked = λ v q. marked' v q ∙ sym (sets_more situation l.earlier this v q);
       places =
           λ j k e. places_here j (suc k) (omega (arith, length_more l.earlier this)) ∙ ap (λ (at : ℕ). get_or (places_from at rest) k 0) its_end;
     }
@@ -130,21 +116,18 @@ module _ (situation front : ℕ) (actions : List ℕ) (all : List Action) where
         its_end : place + 4 + 3 * length this.conditions + bytes_of_times (byte 3) ≡ place + entry_length_lem (byte 3) (byte 4)
         its_end = omega (arith, so_many_first unlent_condition (byte 4) l.conditions)
 
-    pub out_of_force : bit (byte 3) situation ≡ false → Looked marks (place + entry_length_lem (byte 3) (byte 4)) (i + 5)
+    pub out_of_force : bit (byte 3) situation ≡ false → Looked marks (place + entry_length_lem (byte 3) (byte 4)) (5 * (n + 1))
     unfolding in_force
-    out_of_force out = next (rw out) (λ v q few. l.marked v q few ∙ rw out (sym (or-false (sets situation l.earlier v q))))
+    out_of_force out = next (rw out) (λ v q. l.marked v q ∙ rw out (sym (or-false (sets situation l.earlier v q))))
 
     pub in_force_and_new :
-        {marks' : List ℕ} → bit (byte 3) situation ≡ true → within marks (16 * (this.var % 32) + this.post % 16) ≡ false
-        → ((j : ℕ) → within marks' j ≡ (eqb (16 * (this.var % 32) + this.post % 16) j || within marks j))
-        → Looked marks' (place + entry_length_lem (byte 3) (byte 4)) (i + 5)
+        {marks' : List ℕ} → bit (byte 3) situation ≡ true → bit (get_or marks (this.var % 32) 0) (this.post % 16) ≡ false
+        → ((v q : ℕ) → bit (get_or marks' v 0) q ≡ ((eqb (this.var % 32) v && eqb (this.post % 16) q) || bit (get_or marks v 0) q))
+        → Looked marks' (place + entry_length_lem (byte 3) (byte 4)) (5 * (n + 1))
     unfolding in_force
-    in_force_and_new {marks'} in_force_lem new put =
+    in_force_and_new in_force_lem new put =
         next
-        (rw in_force_lem (sym (l.marked this.var this.post few_values) ∙ ap (within marks) (sym its_mark) ∙ new))
-        λ v q few.
-        put (mark_of v q)
-        ∙ rw (its_mark, one_mark_each this.var this.post v q few_values few, l.marked v q few, in_force_lem) (or_comm (eqb this.var v && eqb this.post q) (sets situation l.earlier v q))
-      where
-        few_values : this.post < 16
-        few_values = (small_here 0 (omega arith)).1
+        (rw in_force_lem (sym (l.marked this.var this.post) ∙ (rw (its_var, its_post) at new)))
+        λ v q.
+        put v q
+        ∙ rw (its_var, its_post, l.marked v q, in_force_lem) (or_comm (eqb this.var v && eqb this.post q) (sets situation l.earlier v q))

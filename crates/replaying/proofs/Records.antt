@@ -10,7 +10,6 @@ use Rattle.study.specs.Study.{Study}
 use Rattle.replays.specs.Replay as Replay
 use Rattle.replays.specs.Replay.{idle, waits_for, Progress, stance_bytes, sum_bytes, state_bytes, occupant_bytes}
 use Rattle.barring.specs.Stances.{stance_of}
-use Rattle.barring.specs.Telling.{shown}
 use Rattle.occupant.specs.declared.Occupant.{Occupant}
 use Rattle.following.specs.Following.{Shows}
 use Rattle.replaying.specs.Leaving.{told_of, told_bytes}

@@ -3,10 +3,10 @@ ghost use Rattle.std.specs.Prelude.{◌≡◌, ◌++◌, ◌≤◌, ◌<◌, len
 ghost use Rattle.replays.specs.Replay.{sum_bytes};
 ghost use Rattle.replaying.specs.Leaving.{told_of, told_bytes};
 
-use barring::Stance;
+use barring::Want;
 use occupant::Occupant;
 
-// A stance in numbers: whether it waits, and for which value of which variable.
+// What is waited for in numbers: whether anything is, and which value of which variable.
 #[derive(Clone, Copy)]
 pub(crate) struct Told {
     waits: u8,
@@ -14,16 +14,16 @@ pub(crate) struct Told {
     value: u8,
 }
 
-fn in_numbers(stance: Stance) -> Told
+fn in_numbers(stance: Option<Want>) -> Told
     ensures { result ≡ told_of stance }
 {
     match stance {
-        Stance::Idle => Told {
+        None => Told {
             waits: 0,
             var: 0,
             value: 0,
         },
-        Stance::Waits(want) => Told {
+        Some(want) => Told {
             waits: 1,
             var: want.var,
             value: want.value,
@@ -36,11 +36,7 @@ pub(crate) fn put_state(n: usize, state: &[u8; 32], bytes: &mut [u8; 40])
     requires { n ≤ 32 }
     ensures { length state.now ≡ 32 → length bytes.old ≡ 40 → bytes.new ≡ take n state.now ++ drop n bytes.old }
 {
-    let mut v = 0;
-    while v < n {
-        bytes[v] = state[v];
-        v += 1;
-    }
+    bytes[..n].copy_from_slice(&state[..n]);
 }
 
 // The sum, least significant byte first, and the stance; a spare byte is 0.

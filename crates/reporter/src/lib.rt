@@ -1,48 +1,39 @@
 // Reports how varied the plans of a crew are that so many seeds in a row give.
 #![tactic(auto)]
 
-ghost use Rattle.std.specs.Prelude.{◌≡◌};
-ghost use Rattle.answer.specs.Answers.{refusal};
+ghost use Rattle.std.specs.Prelude.{◌≡◌, ◌≢◌, MatchResult};
+ghost use Rattle.answer.specs.Answers.{done};
 ghost use Rattle.varied.specs.Report.{ReportAllows};
 ghost use Rattle.reporter.specs.Judged.{seeds_answer};
 
-use answer::Answer;
-use tables::Loaded;
+use answer::{Answer, Rule};
 
 const MOST_SEEDS: u64 = 64;
 
 const LARGEST_SEED: u64 = 2147483646;
 
-fn refused(number: u64, first: u64) -> Answer
-    ensures { result ≡ refusal number first }
-{
-    Answer {
-        number,
-        first,
-        second: 0,
-    }
-}
-
-// The refusal 18 or 19 of so many seeds from a first one on, or number 0.
-fn judged(first: u64, n: u64) -> Answer
-    ensures { result ≡ seeds_answer first n }
+// The refusal 18 or 19 of so many seeds from a first one on, if there is one.
+fn judged(first: u64, n: u64) -> Result<(), Answer>
+    ensures { MatchResult result
+        (λ _. done 0 0 ≡ seeds_answer first n)
+        (λ refusal. (refusal ≡ seeds_answer first n) × (refusal.number ≢ 0)) }
 {
     if n < 1 {
-        return refused(19, n);
+        return Err(Rule::WrongCount.refusal(n));
     }
     if MOST_SEEDS < n {
-        return refused(19, n);
+        return Err(Rule::WrongCount.refusal(n));
     }
     if first < 1 {
-        return refused(18, first);
+        return Err(Rule::NoSeed.refusal(first));
     }
     if LARGEST_SEED < first {
-        return refused(18, first);
+        return Err(Rule::NoSeed.refusal(first));
     }
     if LARGEST_SEED + 1 < first + n {
-        return refused(18, LARGEST_SEED + 1);
+        return Err(Rule::NoSeed.refusal(LARGEST_SEED + 1));
     }
-    refused(0, 0)
+    Ok(())
 }
 
 // Answer 0 gives the report's length and writes the report; a refusal alters nothing.
@@ -52,25 +43,19 @@ pub fn report(file: &[u8], crew: u64, first: u64, n: u64, report: &mut [u8]) -> 
     let mut acts = [[0u8; 6]; 256];
     let mut vars = [[0u8; 3]; 32];
     let mut setters = [0u8; 512];
-    let found = mustering::load_for(file, crew, &mut acts, &mut vars, &mut setters);
-    let Loaded::Study {
-        vars: v,
-        actions,
-        seed: _,
-    } = found
-    else {
-        return tables::refused(found);
+    let loaded = match mustering::load_for(file, crew, &mut acts, &mut vars, &mut setters) {
+        Ok(loaded) => loaded,
+        Err(refusal) => return Answer::from(refusal),
     };
-    let seeds = judged(first, n);
-    if seeds.number != 0 {
-        return seeds;
+    if let Err(refusal) = judged(first, n) {
+        return refusal;
     }
     varying::report_loaded(
         file,
         first,
         n as usize,
-        v,
-        actions,
+        loaded.vars,
+        loaded.actions,
         &acts,
         &vars,
         &mut setters,

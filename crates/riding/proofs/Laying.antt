@@ -1,12 +1,12 @@
 -- What is answered of rides: by the start floor, by the first ride at fault, or by the journeys that the tables make of the plan.
 -- Assumes nothing.
 use mathlib.Core.Path.{◌≡◌, refl, sym, ap, ◌∙◌}
-use mathlib.Core.Logic.{◌≢◌}
 use mathlib.Core.Option.{Option, none, some}
 use mathlib.Core.List.{List}
 use Prim.Native.Nat.{ℕ, ◌+◌, ◌-◌, ◌*◌, ◌/◌, ◌≤◌, ◌<◌}
 use native.Mathlib.Omega.{arith}
 use lib.ListN.{length, take, drop, replicate, length-replicate, get_or-replicate}
+use Rattle.std.specs.Prelude.{Ok, Err}
 use Rattle.answer.specs.Answers.{three}
 use Rattle.answer.specs.declared.Answer.{Answer}
 use Rattle.orders.specs.Orders.{In}
@@ -14,7 +14,7 @@ use Rattle.rides.specs.Rides.{rides_of, highest, ride_fault}
 use Rattle.rides.specs.Journeys.{Journey, ride_of, journeys_from, bytes_of}
 use Rattle.rides.specs.Answers.{Laid, UnlessFault, RidesAllow}
 use Rattle.rides.proofs.Bytes.{length_bytes, whole_rides}
-use Rattle.rides.proofs.Faults.{Tells, faulty, sound, tells, fault_numbered, start_refused, start_on_floor}
+use Rattle.rides.proofs.Faults.{start_refused, start_on_floor}
 use Rattle.rides.proofs.Told.{laid_fits, laid_short}
 use Rattle.rides.proofs.Travelled.{same_journeys}
 use Rattle.riding.specs.Tables.{no_floor, ride_in, Fresh, Holds, Placed, fault_told}
@@ -55,24 +55,25 @@ module _ (actions : ℕ) (rides : List ℕ) (start : ℕ) (plan before : List �
   start_answered r h e =
       rw (start_refused actions rides start h) (e ∙ ap (λ (n : ℕ). three 5 n 0) (sym (whole_rides rides)), refl)
 
-  module _ (floor : start ≤ highest) (r : Answer) (told : r ≡ fault_told (ride_fault actions rides)) where
-    pub fault_answered : r.number ≢ 0 → RidesAllow actions rides start plan before r before
-    fault_answered away = rw (start_on_floor actions rides start floor) (go (ride_fault actions rides) told)
+  module _ (floor : start ≤ highest) where
+    pub fault_answered : (r : Answer) → Err r ≡ fault_told (ride_fault actions rides) → RidesAllow actions rides start plan before r before
+    fault_answered r told = rw (start_on_floor actions rides start floor) (go (ride_fault actions rides) told)
       where
-        go : (o : Option Answer) → r ≡ fault_told o → UnlessFault o (journeys_from (ride_of (rides_of rides)) 0 start plan) before r before
-        go none e = absurd (away (ap (λ (a : Answer). a.number) e))
-        go (some s) e = (e, refl)
+        go : (o : Option Answer) → Err r ≡ fault_told o → UnlessFault o (journeys_from (ride_of (rides_of rides)) 0 start plan) before r before
+        go none e = absurd cc
+        go (some s) e = (cc, refl)
 
-    none_told : r.number ≡ 0 → ride_fault actions rides ≡ none
-    none_told z = go (tells actions rides) (ap (λ (a : Answer). a.number) (sym told) ∙ z)
+    none_told : (u : Unit {0}) → Ok u ≡ fault_told (ride_fault actions rides) → ride_fault actions rides ≡ none
+    none_told u told = go (ride_fault actions rides) told
       where
-        go : {o : Option Answer} → Tells actions rides o → (fault_told o).number ≡ 0 → o ≡ none
-        go (faulty f) e = absurd (omega (arith, e, fault_numbered f.fault))
-        go (sound s) e = refl
+        go : (o : Option Answer) → Ok u ≡ fault_told o → o ≡ none
+        go none e = refl
+        go (some s) e = absurd cc
 
     pub journeys_answered :
-        (froms tos : List ℕ) (answer : Answer) (after : List ℕ) → r.number ≡ 0 → Holds (rides_of rides) froms tos → ((i : ℕ) → In i plan → i < 256)
+        (u : Unit {0}) (froms tos : List ℕ) (answer : Answer) (after : List ℕ) → Ok u ≡ fault_told (ride_fault actions rides) → Holds (rides_of rides) froms tos
+        → ((i : ℕ) → In i plan → i < 256)
         → Laid (journeys_from (ride_in froms tos) 0 start plan) before answer after → RidesAllow actions rides start plan before answer after
-    journeys_answered froms tos answer after z holds low laid =
-        rw (start_on_floor actions rides start floor, none_told z)
+    journeys_answered u froms tos answer after told holds low laid =
+        rw (start_on_floor actions rides start floor, none_told u told)
         (rw (same_journeys (ride_in froms tos) (ride_of (rides_of rides)) 0 start plan (λ i h. holds i (low i h))) at laid)

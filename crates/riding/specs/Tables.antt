@@ -1,10 +1,11 @@
 -- Rides in two tables by action, of the floors from and to; 255 stands where an action has none. The floors to stand in the first half of a room.
 -- Assumes nothing.
-use Rattle.std.specs.Prelude.{ℕ, ◌+◌, ◌<◌, ◌≡◌, List, ◌++◌, eqb, length, get_or, take, drop}
+use Rattle.std.specs.Prelude.{ℕ, ◌+◌, ◌<◌, ◌≡◌, List, ◌++◌, eqb, length, get_or, take, drop, Result, Ok, Err}
 use Rattle.std.proofs.Math.Option.{Option, none, some}
 use Rattle.plain.specs.Choose.{pick}
-use Rattle.answer.specs.Answers.{done}
+use Rattle.answer.specs.Answers.{number_of}
 use Rattle.answer.specs.declared.Answer.{Answer}
+use Rattle.answer.specs.declared.Rule.{Rule}
 use Rattle.rides.specs.Rides.{Ride, ride}
 use Rattle.rides.specs.Journeys.{ride_of}
 
@@ -37,7 +38,12 @@ Holds rides froms tos = (i : ℕ) → i < 256 → ride_in froms tos i ≡ ride_o
 abbrev pub Placed : List ℕ → ℕ → List ℕ → List ℕ → Type 0
 Placed before at bytes after = after ≡ take at before ++ (bytes ++ drop (at + length bytes) before)
 
+-- the number of the rule that a ride was told to break, or 0
+abbrev pub number_told : Result Unit Rule → ℕ
+number_told (Ok done) = 0
+number_told (Err rule) = number_of rule
+
 -- what is told of a fault, or that there is none
-abbrev pub fault_told : Option Answer → Answer
-fault_told none = done 0 0
-fault_told (some r) = r
+abbrev pub fault_told : Option Answer → Result Unit Answer
+fault_told none = Ok tt
+fault_told (some r) = Err r

@@ -1,77 +1,66 @@
 // The journeys of a plan: rides entered in tables by action, journeys counted and written. Nothing of files.
 #![tactic(auto)]
 
-ghost use Rattle.std.specs.Prelude.{◌≡◌, [], ◌∷◌, ℕ, ◌+◌, ◌≤◌, ◌<◌, length, take, drop};
+ghost use Rattle.std.specs.Prelude.{◌≡◌, [], ◌∷◌, ℕ, ◌+◌, ◌≤◌, ◌<◌, length, take, drop, IfOk};
 ghost use Rattle.std.proofs.Math.Option.{some};
-ghost use Rattle.answer.specs.Answers.{three};
 ghost use Rattle.orders.specs.Orders.{In};
 ghost use Rattle.rides.specs.Rides.{ride, rides_of, ride_fault, wrong_with_lem};
 ghost use Rattle.rides.specs.Journeys.{journeys_from, step_makes, bytes_of};
 ghost use Rattle.rides.specs.Answers.{Laid, RidesAllow};
-ghost use Rattle.riding.specs.Tables.{ride_in, Sized, Fresh, Holds, Placed, fault_told};
+ghost use Rattle.riding.specs.Tables.{ride_in, Sized, Fresh, Holds, Placed, number_told, fault_told};
 
-use answer::Answer;
+use answer::{Answer, Rule};
 
+// Marks an action without a ride in a table of floors: an `Option<u8>` for each would take twice the stack.
 const NO_FLOOR: u8 = 255;
 
-fn answered(number: u64, first: usize) -> Answer
-    ensures { result ≡ three number first 0 }
-{
-    Answer {
-        number,
-        first: first as u64,
-        second: 0,
-    }
-}
+// The highest floor.
+const HIGHEST: u8 = 199;
 
-// The number of the first rule that a ride breaks, or 0.
-fn wrong_with(actions: usize, again: bool, action: usize, from: u8, to: u8) -> u64
-    ensures { result ≡ wrong_with_lem actions again (ride action from to) }
+// Tries the rules on a ride in their order.
+fn test(actions: usize, again: bool, action: usize, from: u8, to: u8) -> Result<(), Rule>
+    ensures { number_told result ≡ wrong_with_lem actions again (ride action from to) }
 {
     if actions <= action {
-        return 14;
+        return Err(Rule::NoAction);
     }
-    if 199 < from {
-        return 5;
-    }
-    if 199 < to {
-        return 5;
+    if HIGHEST < from || HIGHEST < to {
+        return Err(Rule::OutOfRange);
     }
     if from == to {
-        return 6;
+        return Err(Rule::Improper);
     }
     if again {
-        return 7;
+        return Err(Rule::Repeats);
     }
-    0
+    Ok(())
 }
 
 // Enters each ride in tables that have none, or tells the first that is at fault. Of the room only the first half is written.
-fn enter(rides: &[u8], actions: usize, froms: &mut [u8; 256], tos: &mut [u8; 512]) -> Answer
+fn enter(
+    rides: &[u8],
+    actions: usize,
+    froms: &mut [u8; 256],
+    tos: &mut [u8; 512],
+) -> Result<(), Answer>
     requires { Fresh froms.old tos.old }
     ensures sized { Sized froms.new tos.new × (drop 256 tos.new ≡ drop 256 tos.old) }
     ensures value { result ≡ fault_told (ride_fault actions rides.now) }
-    ensures holds { result.number ≡ 0 → Holds (rides_of rides.now) froms.new tos.new }
+    ensures holds { IfOk result (λ _. Holds (rides_of rides.now) froms.new tos.new) }
 {
-    let mut at = 0;
-    let mut k = 0;
-    while at < rides.len() {
-        if rides.len() - at < 3 {
-            return answered(1, k);
-        }
-        let action = tables::wide(rides[at]);
-        let from = rides[at + 1];
-        let to = rides[at + 2];
-        let wrong = wrong_with(actions, froms[action] != NO_FLOOR, action, from, to);
-        if wrong != 0 {
-            return answered(wrong, k);
+    for (k, bytes) in rides.chunks(3).enumerate() {
+        let [action, from, to] = *bytes else {
+            return Err(Rule::Cut.refusal(k as u64));
+        };
+        let action = usize::from(action);
+        let tested = test(actions, froms[action] != NO_FLOOR, action, from, to);
+        if let Err(rule) = tested {
+            return Err(rule.refusal(k as u64));
         }
         froms[action] = from;
         tos[action] = to;
-        at += 3;
-        k += 1;
     }
-    answered(0, 0)
+    Ok(())
 }
 
 // How many journeys a step with a ride makes of a person on this floor.
@@ -91,15 +80,13 @@ fn count(plan: &[u8], froms: &[u8; 256], tos: &[u8; 512], start: u8) -> usize
 {
     let mut floor = start;
     let mut many = 0;
-    let mut k = 0;
-    while k < plan.len() {
-        let i = tables::wide(plan[k]);
+    for action in plan {
+        let i = usize::from(*action);
         let begins = froms[i];
         if begins != NO_FLOOR {
             many += many_made(floor, begins);
             floor = tos[i];
         }
-        k += 1;
     }
     many
 }
@@ -137,15 +124,13 @@ fn write(plan: &[u8], froms: &[u8; 256], tos: &[u8; 512], start: u8, journeys: &
 {
     let mut floor = start;
     let mut at = 0;
-    let mut k = 0;
-    while k < plan.len() {
-        let i = tables::wide(plan[k]);
+    for (k, action) in plan.iter().enumerate() {
+        let i = usize::from(*action);
         let from = froms[i];
         if from != NO_FLOOR {
             at = put_step(journeys, at, k as u8, floor, from, tos[i]);
             floor = tos[i];
         }
-        k += 1;
     }
 }
 
@@ -156,10 +141,10 @@ fn lay(plan: &[u8], froms: &[u8; 256], tos: &[u8; 512], start: u8, journeys: &mu
 {
     let many = count(plan, froms, tos, start);
     if journeys.len() < 3 * many {
-        return answered(13, 3 * many);
+        return Rule::NoRoom.refusal(3 * many as u64);
     }
     write(plan, froms, tos, start, journeys);
-    answered(0, many)
+    Answer::done(many as u64, 0)
 }
 
 // The journeys of the plan that stands in the room from 256 on, in so many steps, of a file with so many actions; or what is at
@@ -175,13 +160,12 @@ pub fn ride(
     requires { (length room.old ≡ 512) × (steps ≤ 256) × ((i : ℕ) → In i (take steps (drop 256 room.old)) → i < 256) }
     ensures { RidesAllow actions rides.now start (take steps (drop 256 room.old)) journeys.old result journeys.new }
 {
-    if 199 < start {
-        return answered(5, rides.len() / 3);
+    if u64::from(HIGHEST) < start {
+        return Rule::OutOfRange.refusal((rides.len() / 3) as u64);
     }
     let mut froms = [NO_FLOOR; 256];
-    let told = enter(rides, actions, &mut froms, room);
-    if told.number != 0 {
-        return told;
+    if let Err(refused) = enter(rides, actions, &mut froms, room) {
+        return refused;
     }
     let tos: &[u8; 512] = room;
     let whole = &tos[..];

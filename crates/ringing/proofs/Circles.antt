@@ -10,6 +10,7 @@ use lib.Seq.{length-take-le, get_or-take, take-suc, drop-cons, drop-append-le, s
 use Rattle.study.specs.Study.{Study}
 use Rattle.orders.proofs.Lists.{entry_in}
 use Rattle.tables.specs.Rows.{Row}
+use Rattle.facts.specs.declared.Fact.{Fact as FactRow}
 use Rattle.explained.specs.Facts.{Fact, row_of, rows_of}
 use Rattle.explained.specs.Rings.{Stuck, WaitsOn, WaitAlong, order_fact, order_facts, Circled}
 use Rattle.ringing.specs.Stranded.{Rowed}
@@ -31,7 +32,7 @@ slice_one_more path from k l h =
     rw (add-one k, take-suc path k 0 h) (drop-append-le from (take k path) (get_or path k 0 ∷ []) (omega (arith, length-take-le k path (omega arith))))
 
 -- where the pass stands: the orders of the path from its entry `from` to its entry k are told
-pub record Telling (file : List ℕ) (acts : List Row) (path : List ℕ) (from to : ℕ) (facts : List Row) (n k : ℕ) : Type 0 where
+pub record Telling (file : List ℕ) (acts : List Row) (path : List ℕ) (from to : ℕ) (facts : List FactRow) (n k : ℕ) : Type 0 where
   pub some : (t : Study) × Rowed file acts t × AreActions t path to
   pub wide : length path ≡ 256
   pub long : length facts ≡ 288
@@ -41,7 +42,7 @@ pub record Telling (file : List ℕ) (acts : List Row) (path : List ℕ) (from t
   pub so_far_lem : (t : Study) → Rowed file acts t → AreActions t path to → take n facts ≡ rows_of (order_facts t (slice from k path) (get_or path k 0))
 
 pub begins :
-    {file : List ℕ} {acts : List Row} {path : List ℕ} {from to : ℕ} {facts : List Row}
+    {file : List ℕ} {acts : List Row} {path : List ℕ} {from to : ℕ} {facts : List FactRow}
     → (t : Study) × Rowed file acts t × AreActions t path to
     → length path ≡ 256 → length facts ≡ 288 → from < to → to ≤ 256 → Telling file acts path from to facts 0 from
 begins {path = path} {from = from} some wide long low high = record {
@@ -55,7 +56,7 @@ begins {path = path} {from = from} some wide long low high = record {
 }
 
 module _
-    {file : List ℕ} {acts : List Row} {path : List ℕ} {from to : ℕ} {facts : List Row} {n k : ℕ}
+    {file : List ℕ} {acts : List Row} {path : List ℕ} {from to : ℕ} {facts : List FactRow} {n k : ℕ}
     (telling : Telling file acts path from to facts n k) where
   -- one order more, of any action before this one
   one_told :
@@ -70,7 +71,7 @@ module _
       )
 
   pub goes_on :
-      k + 1 < to → {facts' : List Row} {r : ℕ} → r ≡ n + 1 → length facts' ≡ 288
+      k + 1 < to → {facts' : List FactRow} {r : ℕ} → r ≡ n + 1 → length facts' ≡ 288
       → ((t : Study) → Rowed file acts t → get_or path (k + 1) 0 < length t.actions → get_or path k 0 < length t.actions
       → take r facts' ≡ take n facts ++ (row_of (order_fact t (get_or path (k + 1) 0) (get_or path k 0)) ∷ []))
       → Telling file acts path from to facts' r (k + 1)
@@ -86,7 +87,7 @@ module _
 
   -- the last order, of the entry `from` before the last
   pub ends :
-      (facts' : List Row) (r : ℕ) → to ≤ k + 1
+      (facts' : List FactRow) (r : ℕ) → to ≤ k + 1
       → ((t : Study) → Rowed file acts t → get_or path from 0 < length t.actions → get_or path k 0 < length t.actions
       → take r facts' ≡ take n facts ++ (row_of (order_fact t (get_or path from 0) (get_or path k 0)) ∷ []))
       → (t : Study) → Rowed file acts t → AreActions t path to → take r facts' ≡ rows_of (order_facts t (slice from to path) (get_or path from 0))

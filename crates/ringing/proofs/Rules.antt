@@ -2,7 +2,7 @@
 -- Assumes nothing.
 use mathlib.Core.Path.{◌≡◌, sym, ◌∙◌}
 use mathlib.Core.Bool.{true, false, ◌&&◌}
-use mathlib.Core.List.{List, [], ◌∷◌}
+use mathlib.Core.List.{List}
 use Prim.Native.Nat.{ℕ}
 use native.Mathlib.Decide.{ℕ_discrete}
 use lib.Dec.{eqb}
@@ -11,6 +11,8 @@ use Rattle.study.specs.Study.{Study}
 use Rattle.tables.specs.declared.Act.{Act}
 use Rattle.walks.specs.Walks.{var_of, pre_of, post_of, conditions_of}
 use Rattle.wanting.specs.Wanting.{wants}
+use Rattle.facts.specs.declared.Fact.TheVariants.{Ring}
+use Rattle.facts.specs.declared.Rule.TheVariants.{Next, Sets, Leaves}
 use Rattle.explained.specs.Facts.{row_of}
 use Rattle.explained.specs.Rings.{order_fact}
 use Rattle.ringing.specs.Stranded.{Opened}
@@ -35,12 +37,12 @@ module _ {file : List ℕ} {one other : Act} {t : Study} {i j : ℕ} (is-i : Ope
           )
       from (no n) = rw (ne_eqb (var_of t i) (var_of t j) n)
 
-  pub by_next : one.var ≡ other.var → one.post ≡ other.pre → 7 ∷ i ∷ j ∷ other.var ∷ other.pre ∷ [] ≡ row_of (order_fact t i j)
+  pub by_next : one.var ≡ other.var → one.post ≡ other.pre → Ring Next i j other.var other.pre ≡ row_of (order_fact t i j)
   by_next e f = rw (sets_left e f, is-j.is_var, is-j.is_pre)
 
   module _ (d : one.var ≡ other.var → one.post ≡ other.pre → ⊥) where
-    pub by_sets : true ≡ wants (conditions_of t j) one.var one.post → 8 ∷ i ∷ j ∷ one.var ∷ one.post ∷ [] ≡ row_of (order_fact t i j)
+    pub by_sets : true ≡ wants (conditions_of t j) one.var one.post → Ring Sets i j one.var one.post ≡ row_of (order_fact t i j)
     by_sets e = rw (sets_other d, ← is-i.is_var, ← is-i.is_post, ← e)
 
-    pub by_leaves : false ≡ wants (conditions_of t j) one.var one.post → 9 ∷ i ∷ j ∷ other.var ∷ other.pre ∷ [] ≡ row_of (order_fact t i j)
+    pub by_leaves : false ≡ wants (conditions_of t j) one.var one.post → Ring Leaves i j other.var other.pre ≡ row_of (order_fact t i j)
     by_leaves e = rw (sets_other d, ← is-i.is_var, ← is-i.is_post, ← e, is-j.is_var, is-j.is_pre)

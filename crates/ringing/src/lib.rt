@@ -10,12 +10,8 @@ ghost use Rattle.explained.specs.Rings.{order_fact};
 ghost use Rattle.ringing.specs.Stranded.{Opened, Rowed};
 ghost use Rattle.ringing.specs.Path.{AreActions, circle_facts};
 
+use facts::{Fact, Rule};
 use tables::Act;
-
-// The kinds of a ring's orders by rules (b) and (c), behind that by (a).
-const SETS: u8 = 8;
-
-const LEAVES: u8 = 9;
 
 // Where on the path its circle begins, and how long the path is.
 #[derive(Clone, Copy)]
@@ -29,15 +25,11 @@ fn wants(file: &[u8], act: Act, v: u8, q: u8) -> bool
     requires { (t : Study) × (j : ℕ) × Opened file.now act t j }
     ensures { (t : Study) (j : ℕ) → Opened file.now act t j → result ≡ Wanting·wants (conditions_of t j) v q }
 {
-    let many = act.many;
-    let mut at = act.place;
-    let mut k = 0;
-    while k < many {
+    for k in 0..act.many {
+        let at = act.place + 3 * k as usize;
         if file[at + 1] == v && file[at + 2] == q {
             return true;
         }
-        at += 3;
-        k += 1;
     }
     false
 }
@@ -48,7 +40,7 @@ fn order(
     i: u8,
     j: u8,
     acts: &[[u8; 6]; 256],
-    facts: &mut [[u8; 5]; 288],
+    facts: &mut [Fact; 288],
     n: usize,
 ) -> usize
     requires { (n < 288) × (length facts.old ≡ 288)
@@ -63,12 +55,33 @@ fn order(
     let one = tables::action_at(acts, tables::wide(i));
     let other = tables::action_at(acts, tables::wide(j));
     if one.var == other.var && one.post == other.pre {
-        return facts::add(facts, n, facts::RING, i, j, other.var, other.pre);
+        let by_next = Fact::Ring {
+            rule: Rule::Next,
+            action: i,
+            next: j,
+            variable: other.var,
+            value: other.pre,
+        };
+        return facts::add(facts, n, by_next);
     }
     if wants(file, other, one.var, one.post) {
-        return facts::add(facts, n, SETS, i, j, one.var, one.post);
+        let by_sets = Fact::Ring {
+            rule: Rule::Sets,
+            action: i,
+            next: j,
+            variable: one.var,
+            value: one.post,
+        };
+        return facts::add(facts, n, by_sets);
     }
-    facts::add(facts, n, LEAVES, i, j, other.var, other.pre)
+    let by_leaves = Fact::Ring {
+        rule: Rule::Leaves,
+        action: i,
+        next: j,
+        variable: other.var,
+        value: other.pre,
+    };
+    facts::add(facts, n, by_leaves)
 }
 
 // The orders of the circle: each action of it after the next, and the last after the first.
@@ -77,7 +90,7 @@ pub fn orders(
     c: Circle,
     acts: &[[u8; 6]; 256],
     path: &[u8; 256],
-    facts: &mut [[u8; 5]; 288],
+    facts: &mut [Fact; 288],
 ) -> usize
     requires { (length path.now ≡ 256) × (length facts.old ≡ 288) × (c.from < c.to) × (c.to ≤ 256)
         × ((t : Study) × Rowed file.now acts.now t × AreActions t path.now c.to) }
@@ -90,10 +103,8 @@ pub fn orders(
     let from = c.from;
     let to = c.to;
     let mut n = 0;
-    let mut k = from;
-    while k + 1 < to {
+    for k in from..to - 1 {
         n = order(file, path[k + 1], path[k], acts, facts, n);
-        k += 1;
     }
-    order(file, path[from], path[k], acts, facts, n)
+    order(file, path[from], path[to - 1], acts, facts, n)
 }

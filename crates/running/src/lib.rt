@@ -12,6 +12,8 @@ pub fn run(file: &[u8], crew: u64, plan: &[u8], state: &mut [u8]) -> Answer
     let mut acts = [[0u8; 6]; 256];
     let mut vars = [[0u8; 3]; 32];
     let mut setters = [0u8; 512];
-    let loaded = mustering::load_for(file, crew, &mut acts, &mut vars, &mut setters);
-    finishing::run_loaded(file, plan, loaded, &acts, &vars, state)
+    match mustering::load_for(file, crew, &mut acts, &mut vars, &mut setters) {
+        Ok(loaded) => finishing::run_loaded(file, plan, loaded, &acts, &vars, state),
+        Err(refusal) => Answer::from(refusal),
+    }
 }

@@ -77,11 +77,9 @@ fn keep_few(e: Extent, members: u64, words: &[u64; 64], room: &mut [u8; 512], ke
         → KeptAll t e.first e.seeds e.total 0 64 kept.new }
 {
     keeping::keep(room, e.total, 0, 0, 64, kept);
-    let mut k = 1;
-    while k < e.seeds {
+    for k in 1..e.seeds {
         take_few_by(e.first + (k as u64), e, members, words, room);
         keeping::keep(room, e.total, k, 0, 64, kept);
-        k += 1;
     }
 }
 
@@ -104,13 +102,11 @@ fn keep_many(
         → FirstTaken t e room.old
         → KeptAll t e.first e.seeds e.total 5 e.actions report.new }
 {
-    keeping::keep(room, e.total, 0, keeping::HEAD, e.actions, report);
-    let mut k = 1;
-    while k < e.seeds {
+    keeping::keep(room, e.total, 0, heading::HEAD, e.actions, report);
+    for k in 1..e.seeds {
         let seed = e.first + (k as u64);
         take_many_by(file, seed, e, acts, vars, steps, wants, room);
-        keeping::keep(room, e.total, k, keeping::HEAD, e.actions, report);
-        k += 1;
+        keeping::keep(room, e.total, k, heading::HEAD, e.actions, report);
     }
 }
 
@@ -155,7 +151,7 @@ pub fn count_many(
         → Reported t e.first e.seeds e.total report.old report.new }
 {
     keep_many(file, e, acts, vars, steps, wants, room, report);
-    let different = matching::different(e.seeds, e.total, keeping::HEAD, e.actions, report);
+    let different = matching::different(e.seeds, e.total, heading::HEAD, e.actions, report);
     heading::head(e.seeds as u8, 0, 0, 0, different as u8, report);
     tallying::rows_in_place(e.seeds, e.total, e.actions, report);
 }

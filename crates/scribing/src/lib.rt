@@ -13,10 +13,9 @@ fn put_conditions(conditions: &[u8], begin: usize, file: &mut [u8]) -> usize
     ensures { Put (spelled (map condition_record (conditions_in conditions.now))) begin file.old file.new result }
 {
     let mut at = begin;
-    let mut i = 0;
-    while i < conditions.len() {
-        at = putting::put_three(3, conditions[i], conditions[i + 1], at, file);
-        i += 2;
+    let (pairs, _) = conditions.as_chunks::<2>();
+    for [var, value] in pairs {
+        at = putting::put([3, *var, *value], at, file);
     }
     at
 }
@@ -29,15 +28,14 @@ pub fn put_actions(actions: &[u8], conditions: &[u8], begin: usize, file: &mut [
         file.old file.new result }
 {
     let mut at = begin;
-    let mut i = 0;
     let mut used = 0;
-    while i < actions.len() {
-        at = putting::put_four(2, actions[i], actions[i + 1], actions[i + 2], at, file);
-        let next = used + 2 * tables::wide(actions[i + 4]);
+    let (entries, _) = actions.as_chunks::<5>();
+    for [var, pre, post, set, many] in entries {
+        at = putting::put([2, *var, *pre, *post], at, file);
+        let next = used + 2 * usize::from(*many);
         at = put_conditions(&conditions[used..next], at, file);
-        at = putting::put_unless(255, 7, actions[i + 3], at, file);
+        at = putting::put_unless(255, 7, *set, at, file);
         used = next;
-        i += 5;
     }
     at
 }

@@ -1,6 +1,6 @@
 -- What filling the table of setters comes to: each action in force is named for the value that it sets, or one repeats an earlier one.
 -- Assumes nothing.
-use Rattle.std.specs.Prelude.{ℕ, ◌+◌, ◌<◌, ◌≡◌, Bool, true, false, List, [], length, get_or}
+use Rattle.std.specs.Prelude.{ℕ, ◌+◌, ◌<◌, ◌≡◌, Bool, true, false, List, [], length, get_or, Option, Some, None}
 use Rattle.std.proofs.Math.Option.{none, some}
 use Rattle.bits.specs.Bits.{bit}
 use Rattle.study.specs.Study.{Action, in_force, action_at}
@@ -30,9 +30,9 @@ pub record Named (situation : ℕ) (actions : List Action) (i : ℕ) (before mar
   pub names : r ≡ true → Kept situation i before marks actions → (length after ≡ 512) × Kept situation (i + 1) after marks' actions
   pub repeats : r ≡ false → Kept situation i before marks actions → RepeatsAt situation actions i
 
--- all n actions are named and none repeats; or action r is the first that does
-pub record Filled (situation n : ℕ) (actions : List Action) (setters : List ℕ) (r : ℕ) : Type 0 where
-  pub repeats : r < n → repeat_from situation [] actions ≡ some r
-  pub none_repeats : r ≡ n → repeat_from situation [] actions ≡ none
-  pub long : r ≡ n → length setters ≡ 512
-  pub names : r ≡ n → NamesSetters situation n setters actions
+-- all n actions are named and none repeats; or action k is the first that does
+pub record Filled (situation n : ℕ) (actions : List Action) (setters : List ℕ) (r : Option ℕ) : Type 0 where
+  pub repeats : (k : ℕ) → r ≡ Some k → repeat_from situation [] actions ≡ some k
+  pub none_repeats : r ≡ None → repeat_from situation [] actions ≡ none
+  pub long : r ≡ None → length setters ≡ 512
+  pub names : r ≡ None → NamesSetters situation n setters actions

@@ -8,3 +8,4 @@ pub mod NeverCut
 pub mod Whole
 pub mod LentBytes
 pub mod Settled
+pub mod Chunks

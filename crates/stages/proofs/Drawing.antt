@@ -7,7 +7,7 @@ use native.Mathlib.Omega.{arith}
 use lib.ListN.{length, take, drop, replicate}
 use lib.Seq.{take_at}
 use Rattle.ranking.specs.Ranking.{tested}
-use Rattle.ranking.specs.declared.Tested.TheVariants.{Fine}
+use Rattle.std.specs.Prelude.{Ok}
 use Rattle.ranking.proofs.Fine.{rank_list_is_fine}
 use Rattle.study.specs.Study.{Study}
 use Rattle.tables.specs.Tables.{ActionTables}
@@ -15,7 +15,7 @@ use Rattle.draw.specs.Draw.{drawn, draw_leaves}
 use Rattle.draw.proofs.Drawn.{drawn_is_rank_list, not_refused}
 use Rattle.stages.specs.Whole.{Known}
 
-pub drawn_fine : (seed a : ℕ) → tested (drawn seed a) a ≡ Fine
+pub drawn_fine : (seed a : ℕ) → tested (drawn seed a) a ≡ Ok tt
 drawn_fine seed a = rank_list_is_fine (drawn_is_rank_list seed a)
 
 -- a seed in range leaves its list in the front of the ranks, whatever stood there

@@ -7,7 +7,7 @@ use native.Mathlib.Omega.{arith}
 use lib.ListN.{length, take, drop, replicate}
 use Rattle.plain.proofs.Lists.{all_zeros}
 use Rattle.ranking.specs.Ranking.{tested}
-use Rattle.ranking.specs.declared.Tested.TheVariants.{Fine}
+use Rattle.std.specs.Prelude.{Result, Ok, Err}
 use Rattle.ranking.proofs.Fine.{fine_is_rank_list, rank_list_is_fine}
 use Rattle.ranks.specs.Ranks.{RankList, Apart}
 use Rattle.ranks.proofs.Placed.{rank_list_apart}
@@ -21,8 +21,7 @@ use Rattle.planning.proofs.Bars.{without_bars_walks}
 use Rattle.walks.specs.Walks.{Walks, Met, start_of, goal_of}
 use Rattle.tracing.specs.Facts.{Tells, Moves, Wishes, Deeds}
 use Rattle.tracing.specs.Steps.{EmptyRow, Rowed, Members, WalksAll}
-use Rattle.tracing.specs.declared.Walked.{Walked}
-use Rattle.tracing.specs.declared.Walked.TheVariants.{All, NoWalk}
+use Rattle.tracing.specs.declared.NoWalk.{NoWalk}
 use Rattle.tracing.proofs.Ranges.{few_tasks}
 use Rattle.wanting.specs.Wanting.{Counts}
 use Rattle.taking.specs.Taking.{Prepared, TakenGreedily}
@@ -34,9 +33,9 @@ pub rowed_walks : {t : Study} {n : ℕ} {steps : List ℕ} → n ≡ length t.ta
 rowed_walks e rowed v h = let r = rowed v (rw e h) in (r.0, r.1.0)
 
 -- every variable has a walk: they are entered
-pub walks_rowed : {t : Study} {n : ℕ} {steps : List ℕ} (r : Walked) → Walks t → WalksAll t n steps r → Rowed t n steps
-walks_rowed (All total) walks w = w.0
-walks_rowed (NoWalk v b) walks w = absurd (without_bars_walks w walks)
+pub walks_rowed : {t : Study} {n : ℕ} {steps : List ℕ} (r : Result ℕ NoWalk) → Walks t → WalksAll t n steps r → Rowed t n steps
+walks_rowed (Ok total) walks w = w.0
+walks_rowed (Err fault) walks w = absurd (without_bars_walks w walks)
 
 pub held_wishes :
     {file : List ℕ} {a : ℕ} {acts : ActionTables} {t : Study} → Lawful t → HoldsActions file t.situation a acts t.actions
@@ -63,7 +62,7 @@ held_deeds lawful held = record {
 -- with a rank list, what is known is given
 pub known_given :
     {file : List ℕ} (ranks : List ℕ) {n a x : ℕ} {acts : ActionTables} {starts goals : List ℕ} {t : Study}
-    → Known file n a x acts starts goals t → tested ranks a ≡ Fine → Given file ranks n a acts starts goals t
+    → Known file n a x acts starts goals t → tested ranks a ≡ Ok tt → Given file ranks n a acts starts goals t
 known_given ranks known ranked =
     record {
       lawful = known.lawful;
@@ -120,7 +119,7 @@ module _
           seed = refl;
         }
 
-    pub given_ranked : tested ranks (length t.actions) ≡ Fine
+    pub given_ranked : tested ranks (length t.actions) ≡ Ok tt
     given_ranked = rw (← given.actions.count) given.ranked
 
     -- there is a rank for each action
@@ -129,7 +128,7 @@ module _
 
     -- walking came to the end
     pub given_walking :
-        {r : Walked} {total : ℕ} {steps : List ℕ} → WalksAll t n steps r → r ≡ All total → Walking file ranks n total acts starts steps t
+        {r : Result ℕ NoWalk} {total : ℕ} {steps : List ℕ} → WalksAll t n steps r → r ≡ Ok total → Walking file ranks n total acts starts steps t
     given_walking {steps = steps} walked e =
         let (rowed, (list, (members, counted))) = subst (WalksAll t n steps) e walked in
         record {

@@ -1,8 +1,7 @@
 -- A loaded study in the planner's hands: what is known before each stage.
 -- Assumes nothing.
-use Rattle.std.specs.Prelude.{ℕ, ◌≡◌, List, length}
+use Rattle.std.specs.Prelude.{ℕ, ◌≡◌, List, length, Ok}
 use Rattle.ranking.specs.Ranking.{tested}
-use Rattle.ranking.specs.declared.Tested.TheVariants.{Fine}
 use Rattle.study.specs.Study.{Study}
 use Rattle.lawful.specs.Lawful.{Lawful}
 use Rattle.tables.specs.Tables.{ActionTables, HoldsActions, NamesSetters, HoldsTasks}
@@ -28,7 +27,7 @@ pub record Given (file ranks : List ℕ) (n a : ℕ) (acts : ActionTables) (star
   pub actions : HoldsActions file t.situation a acts t.actions
   pub setters : NamesSetters t.situation a acts.setters t.actions
   pub tasks : HoldsTasks n starts goals t.tasks
-  pub ranked : tested ranks a ≡ Fine
+  pub ranked : tested ranks a ≡ Ok tt
 
 -- .. and every variable has a walk, entered in the table of steps
 pub record Walking (file ranks : List ℕ) (n total : ℕ) (acts : ActionTables) (starts steps : List ℕ) (t : Study) : Type 0 where
@@ -37,7 +36,7 @@ pub record Walking (file ranks : List ℕ) (n total : ℕ) (acts : ActionTables)
   pub actions : HoldsActions file t.situation (length ranks) acts t.actions
   pub setters : NamesSetters t.situation (length ranks) acts.setters t.actions
   pub tells_starts : Tells start_of n starts t
-  pub ranked : tested ranks (length t.actions) ≡ Fine
+  pub ranked : tested ranks (length t.actions) ≡ Ok tt
   pub rowed : Rowed t n steps
   pub list : List ℕ
   pub members : Members t list

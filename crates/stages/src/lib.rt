@@ -11,9 +11,6 @@ ghost use Rattle.handing.specs.Handing.{Taken, InRoom};
 ghost use Rattle.stages.specs.Whole.{KnownIn, GivenIn, WalkingIn, Orderly, WantsCountedIn};
 
 use answer::Answer;
-use ordering::Found;
-use tracing::Walked;
-use wanting::Met;
 
 // Up to so many actions a set of ranks is one word.
 const FEW: usize = 64;
@@ -64,10 +61,9 @@ fn plan_many(
         → InRoom t ranks.now result room.new }
 {
     let mut wants = [0u16; 512];
-    let met = wanting::want_all(file, ranks.len(), acts, steps, &mut wants);
-    let Met::All = met else {
-        return handing::unmet(met);
-    };
+    if let Err(off) = wanting::want_all(file, ranks.len(), acts, steps, &mut wants) {
+        return handing::unmet(off);
+    }
     let taken = take_many(file, ranks, n, total, acts, vars, steps, &mut wants, room);
     handing::finish(taken, total)
 }
@@ -121,8 +117,9 @@ fn plan_few(
         steps,
         &mut before,
     );
-    let Found::Members(members) = found else {
-        return handing::unordered(found);
+    let members = match found {
+        Ok(members) => members,
+        Err(off) => return handing::unmet(off),
     };
     let taken = take_few(members, total, ranks, &before, room);
     handing::finish(taken, total)
@@ -171,11 +168,10 @@ pub fn plan_in_room(
         → InRoom t ranks.now result setters.new }
 {
     let mut steps = [0u16; 512];
-    let walked = tracing::walk_all(n, actions, acts, vars, setters, &mut steps);
-    let Walked::All(total) = walked else {
-        return handing::unwalked(walked);
-    };
-    plan_walked(file, ranks, n, total, acts, vars, &steps, setters)
+    match tracing::walk_all(n, actions, acts, vars, setters, &mut steps) {
+        Ok(total) => plan_walked(file, ranks, n, total, acts, vars, &steps, setters),
+        Err(fault) => handing::unwalked(Err(fault)),
+    }
 }
 
 // The same, with the plan handed over in a buffer.

@@ -5,10 +5,10 @@ use mathlib.Core.List.{List}
 use Prim.Native.Nat.{ℕ}
 use native.Mathlib.Omega.{arith}
 use lib.ListN.{length}
+use Rattle.std.specs.Prelude.{Ok}
 use Rattle.study.specs.Reading.{refused, blank, reading}
 use Rattle.advancing.specs.declared.Progress.{Progress}
 use Rattle.advancing.specs.declared.Step.TheVariants.{On, Refused, Done}
-use Rattle.tables.specs.declared.Read.TheVariants as Read-of
 use Rattle.tables.specs.Tables.{Tables, Sized, Reads}
 use Rattle.standing.specs.Reads.{Safe, origin}
 use Rattle.standing.specs.Halfway.{Halfway}
@@ -50,5 +50,5 @@ module _ {file : List ℕ} {t : Tables} {crews : List ℕ} {p : Progress} (safe 
 
   pub ends :
       (t' : Tables) (crews' : List ℕ) (p' : Progress) → Answers file p t crews t' crews' (Done p')
-      → Reads file t' crews' (Read-of.Roster p'.vars p'.actions p'.crews)
+      → Reads file t' crews' (Ok (record { vars = p'.vars; actions = p'.actions; crews = p'.crews }))
   ends t' crews' p' a = let k = a.1 h.draft h.stands in (k.0, settles h.reached safe.inside k.1, k.2)

@@ -6,11 +6,11 @@ use Prim.Native.Nat.{ℕ, ◌+◌, ◌≤◌, ◌<◌}
 use native.Mathlib.Numerals.{add-one}
 use lib.ListN.{length, get_or, drop, drop_of_length-le}
 use lib.Seq.{drop-cons}
+use Rattle.std.specs.Prelude.{Ok, Err}
 use Rattle.answer.specs.declared.Answer.{Answer}
 use Rattle.study.specs.Study.{Study}
 use Rattle.plans.specs.Plans.{State}
 use Rattle.runs.specs.Run.{stops, run_on}
-use Rattle.stepping.specs.declared.Turn.TheVariants.{On, Stops}
 use Rattle.barring.specs.Telling.{shown}
 use Rattle.stepping.specs.Stepping.{Stage, Takes, Went}
 
@@ -28,12 +28,12 @@ module _ {t : Study} {plan first : List ℕ} {k : ℕ} {table marks : List ℕ} 
     runs_next : run_on t [] (shown t first) 0 plan ≡ run_on t h.past (shown t table) k (get_or plan k 0 ∷ drop (k + 1) plan)
     runs_next = h.runs ∙ (rw (add-one k, drop-cons plan k 0 more))
 
-    pub goes_on : {table' marks' : List ℕ} → Takes t h.past k (get_or plan k 0) table table' marks' On → Halfway t plan first (k + 1) table' marks'
+    pub goes_on : {table' marks' : List ℕ} → Takes t h.past k (get_or plan k 0) table table' marks' (Ok tt) → Halfway t plan first (k + 1) table' marks'
     goes_on taken = record { past = shown t table ∷ h.past; runs = runs_next ∙ taken.0 (drop (k + 1) plan); stage = taken.1 }
 
-    pub refuses : {a : Answer} → Takes t h.past k (get_or plan k 0) table table marks (Stops a) → run_on t [] (shown t first) 0 plan ≡ stops a
+    pub refuses : {a : Answer} → Takes t h.past k (get_or plan k 0) table table marks (Err a) → run_on t [] (shown t first) 0 plan ≡ stops a
     refuses taken = runs_next ∙ taken (drop (k + 1) plan)
 
-  pub ends : length plan ≤ k → Went t plan first table On
+  pub ends : length plan ≤ k → Went t plan first table (Ok tt)
   unfolding run_on
   ends all = (h.runs ∙ (rw (drop_of_length-le plan {i = k} all)), h.stage.long)

@@ -9,6 +9,7 @@ use lib.Dec.{eqb}
 use lib.ListN.{length, get_or, set, length-set}
 use lib.Seq.{take-set-lt, length-take-le}
 use borrow.Author.Tests.{le-leb, lt-leb}
+use Rattle.std.specs.Prelude.{None, Some, Ok, Err}
 use Rattle.answer.specs.Answers.{three, refusal}
 use Rattle.bits.specs.Bits.{bit}
 use Rattle.study.specs.Study.{Action, Study, in_force, action_at}
@@ -19,12 +20,10 @@ use Rattle.replays.specs.Replay.{lacks}
 use Rattle.tables.specs.Rows.{Row, out_column}
 use Rattle.tables.specs.declared.Act.{Act}
 use Rattle.barring.specs.declared.Want.{Want}
-use Rattle.barring.specs.declared.Stance.TheVariants.{Idle, Waits}
 use Rattle.barring.specs.Stances.{stance_of}
 use Rattle.barring.specs.Telling.{Tells, Ready, shown}
 use Rattle.barring.proofs.Searches.{lacks_shown}
 use Rattle.barring.proofs.Stances.{free, bars}
-use Rattle.stepping.specs.declared.Turn.TheVariants.{On, Stops}
 use Rattle.stepping.specs.Stepping.{Stage, Takes}
 use Rattle.stepping.proofs.Marks.{marked_more}
 
@@ -81,11 +80,11 @@ module _
     (stage : Stage t past table marks)
     (k i : ℕ)
   where
-    pub takes_14 : actions ≤ i → Takes t past k i table table marks (Stops (refusal 14 k))
+    pub takes_14 : actions ≤ i → Takes t past k i table table marks (Err (refusal 14 k))
     takes_14 h rest = run_too_high t past (shown t table) k i rest (omega (arith, ready.count))
 
     module _ (there : i < actions) where
-      pub takes_20 : eqb (get_or (out_column acts) i 0) 0 ≡ false → Takes t past k i table table marks (Stops (refusal 20 k))
+      pub takes_20 : eqb (get_or (out_column acts) i 0) 0 ≡ false → Takes t past k i table table marks (Err (refusal 20 k))
       takes_20 out rest = run_out t past (shown t table) k i rest (omega (arith, ready.count)) (sym (ready.force i there) ∙ out)
 
       lacks_is : lacks (shown t table) (action_at t.actions i) ≡ lacks table (action_at t.actions i)
@@ -99,14 +98,14 @@ module _
         usable = record { there = omega (arith, ready.count); in_force_lem = sym (ready.force i there) ∙ force }
 
         pub takes_15 :
-            {w : Want} → Waits w ≡ stance_of (lacks table (action_at t.actions i))
-            → Takes t past k i table table marks (Stops (three 15 k w.var))
+            {w : Want} → Some w ≡ stance_of (lacks table (action_at t.actions i))
+            → Takes t past k i table table marks (Err (three 15 k w.var))
         takes_15 {w} e rest =
             run_barred t past (shown t table) k i rest usable w.var (bars (shown t table) (action_at t.actions i) w (rw lacks_is e))
 
         -- nothing bars it
         module _
-            (nothing : Idle ≡ stance_of (lacks table (action_at t.actions i)))
+            (nothing : None ≡ stance_of (lacks table (action_at t.actions i)))
             {act : Act} (tells : Tells file act (action_at t.actions i))
             {v : ℕ} (var : v ≡ act.var)
           where
@@ -118,7 +117,7 @@ module _
                 stage.marked.tells v act.post (var_small ready i there tells var) (post_small ready i there tells)
                 ∙ (rw (var_is ready i there tells var, tells.post))
 
-            pub takes_16 : bit (get_or marks v 0) act.post ≡ true → Takes t past k i table table marks (Stops (three 16 k v))
+            pub takes_16 : bit (get_or marks v 0) act.post ≡ true → Takes t past k i table table marks (Err (three 16 k v))
             takes_16 e rest = run_held t past (shown t table) k i rest usable unbarred (sym told ∙ e) ∙ (rw (var_is ready i there tells var))
 
             shown_set : shown t (set table v act.post) ≡ set (shown t table) v act.post
@@ -137,7 +136,7 @@ module _
                         put);
                   }
 
-              pub takes_on : bit (get_or marks v 0) act.post ≡ false → Takes t past k i table (set table v act.post) (set marks v word) On
+              pub takes_on : bit (get_or marks v 0) act.post ≡ false → Takes t past k i table (set table v act.post) (set marks v word) (Ok tt)
               takes_on e = (
                 λ rest.
                     run_step t past (shown t table) k i rest usable unbarred (sym told ∙ e)

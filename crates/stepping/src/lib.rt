@@ -10,22 +10,13 @@ ghost use Rattle.stepping.specs.Stepping.{Marked, Small, Went};
 
 use answer::Answer;
 
-// What a step, or a list of steps, leads to.
-#[derive(Clone, Copy)]
-pub enum Turn {
-    On,
-    Stops(Answer),
-}
-
 // Marks each variable's value as held, and no other value.
 fn mark_starts(n: usize, state: &[u8; 32], held: &mut [u16; 32])
     requires { Small n state.now × (length held.old ≡ 32) }
     ensures { Marked n held.new (take n state.now ∷ []) }
 {
-    let mut v = 0;
-    while v < n {
+    for v in 0..n {
         held[v] = marks::with(0, state[v]);
-        v += 1;
     }
 }
 
@@ -37,7 +28,7 @@ pub fn do_steps(
     actions: usize,
     acts: &[[u8; 6]; 256],
     state: &mut [u8; 32],
-) -> Turn
+) -> Result<(), Answer>
     requires { Small n state.old × ((t : Study) × Ready file.now actions acts.now t) }
     ensures { (t : Study)
         → Ready file.now actions acts.now t

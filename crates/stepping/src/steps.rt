@@ -1,26 +1,11 @@
 // The steps of a list, one after another.
 ghost use Rattle.std.specs.Prelude.{◌≡◌, List, []};
-ghost use Rattle.answer.specs.Answers.{three};
 ghost use Rattle.study.specs.Study.{Study};
 ghost use Rattle.plans.specs.Plans.{State};
-ghost use Rattle.stepping.specs.declared.Turn.TheVariants.{Stops};
 ghost use Rattle.barring.specs.Telling.{Ready};
 ghost use Rattle.stepping.specs.Stepping.{Stage, Takes, Went};
 
-use crate::Turn;
-use answer::Answer;
-use barring::Stance;
-
-// The refusal of step k.
-fn stops(number: u64, k: usize, second: u64) -> Turn
-    ensures { result ≡ Stops (three number k second) }
-{
-    Turn::Stops(Answer {
-        number,
-        first: k as u64,
-        second,
-    })
-}
+use answer::{Answer, Rule};
 
 // Does step k, which is the action `entry`, or says why not.
 fn take_step(
@@ -31,7 +16,7 @@ fn take_step(
     acts: &[[u8; 6]; 256],
     state: &mut [u8; 32],
     held: &mut [u16; 32],
-) -> Turn
+) -> Result<(), Answer>
     requires { (t : Study) × Ready file.now actions acts.now t }
     ensures { (t : Study) (past : List State)
         → Ready file.now actions acts.now t
@@ -40,23 +25,23 @@ fn take_step(
 {
     let i = entry as usize;
     if actions <= i {
-        return stops(14, k, 0);
+        return Err(Rule::NoAction.refusal(k as u64));
     }
     if !tables::in_force(acts, i) {
-        return stops(20, k, 0);
+        return Err(Rule::OutOfForce.refusal(k as u64));
     }
     let act = tables::action_at(acts, i);
-    if let Stance::Waits(want) = barring::barred(file, act, state) {
-        return stops(15, k, want.var as u64);
+    if let Some(want) = barring::barred(file, act, state) {
+        return Err(Rule::Barred.answer(k as u64, want.var as u64));
     }
     let v = tables::wide(act.var);
     let word = held[v];
     if marks::has(word, act.post) {
-        return stops(16, k, v as u64);
+        return Err(Rule::HeldBefore.answer(k as u64, v as u64));
     }
     held[v] = marks::with(word, act.post);
     state[v] = act.post;
-    Turn::On
+    Ok(())
 }
 
 // Does the steps of the list until one may not be done.
@@ -67,20 +52,15 @@ pub(crate) fn steps(
     acts: &[[u8; 6]; 256],
     state: &mut [u8; 32],
     held: &mut [u16; 32],
-) -> Turn
+) -> Result<(), Answer>
     requires { (t : Study) × Ready file.now actions acts.now t }
     ensures { (t : Study)
         → Ready file.now actions acts.now t
         → Stage t [] state.old held.old
         → Went t plan.now state.old state.new result }
 {
-    let mut k = 0;
-    while k < plan.len() {
-        let turn = take_step(file, k, plan[k], actions, acts, state, held);
-        if let Turn::Stops(answer) = turn {
-            return Turn::Stops(answer);
-        }
-        k += 1;
+    for (k, entry) in plan.iter().enumerate() {
+        take_step(file, k, *entry, actions, acts, state, held)?;
     }
-    Turn::On
+    Ok(())
 }

@@ -15,8 +15,8 @@ use Rattle.planning.proofs.Bars.{off_bars_met}
 use Rattle.tracing.specs.Facts.{Wishes}
 use Rattle.tracing.specs.Steps.{Rowed, Members}
 use Rattle.wanting.specs.Wanting.{Counts, WantsAll}
-use Rattle.wanting.specs.declared.Met.{Met as Found}
-use Rattle.wanting.specs.declared.Met.TheVariants.{All, Off}
+use Rattle.std.specs.Prelude.{Result, Ok, Err}
+use Rattle.wanting.specs.declared.Off.{Off}
 use Rattle.wanting.proofs.Told.{told}
 use Rattle.stages.specs.Whole.{WantsCounted}
 use Rattle.stages.proofs.Stages.{held_wishes, held_deeds}
@@ -29,9 +29,9 @@ front_list a few ranks leaves =
     rw (drawn-stands 1 a (omega arith) (omega arith) few (replicate 256 0) ranks few leaves) (drawn_is_rank_list 1 a)
 
 -- where every condition is on its walk, the pass over the conditions came to its end
-counts_all : {t : Study} (wants : List ℕ) (r : Found) → Met t → WantsAll t wants r → (list : List ℕ) → Members t list → Counts t list wants
-counts_all wants All met w = w.1
-counts_all wants (Off i u) met w = absurd (off_bars_met w met)
+counts_all : {t : Study} (wants : List ℕ) (r : Result (Unit {0}) Off) → Met t → WantsAll t wants r → (list : List ℕ) → Members t list → Counts t list wants
+counts_all wants (Ok tt) met w = w.1
+counts_all wants (Err o) met w = absurd (off_bars_met w met)
 
 module _
     {file : List ℕ} {n a total : ℕ} {acts : ActionTables} {starts steps : List ℕ} {t : Study}
@@ -52,7 +52,7 @@ module _
       untaken_list = rw untaken.actions.count at list
 
       pub untaken_counted :
-          (wants : List ℕ) (r : Found) → WantsAll t wants r
+          (wants : List ℕ) (r : Result (Unit {0}) Off) → WantsAll t wants r
           → WantsCounted file n (length ranks) total acts.vars acts.posts acts.places acts.manys starts steps wants t
       untaken_counted wants r counted = record {
         orderly = untaken.orderly;

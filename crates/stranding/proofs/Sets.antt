@@ -1,16 +1,16 @@
 -- Sets that grow by one number or lose one, and what they have then.
 -- Assumes nothing.
-use mathlib.Core.Path.{◌≡◌, refl, sym, ◌∙◌}
+use mathlib.Core.Path.{◌≡◌, refl, sym, ap, subst, ◌∙◌}
 use mathlib.Core.Logic.{inl, inr, ◌≢◌}
 use mathlib.Core.Bool.{true, false, or-true, true≢false}
 use mathlib.Core.List.{List, [], ◌∷◌, ◌++◌}
-use Prim.Native.Nat.{ℕ, ◌+◌, ◌<◌}
+use Prim.Native.Nat.{ℕ, ◌+◌, ◌-◌, ◌≤◌, ◌<◌}
 use native.Mathlib.Numerals.{add-one}
 use native.Mathlib.Omega.{arith}
 use native.Mathlib.Decide.{ℕ_discrete}
 use lib.Dec.{eqb}
 use lib.ListN.{length, get_or, take, drop, length-drop}
-use lib.Seq.{take-suc, get_or-drop}
+use lib.Seq.{take-suc, take_all}
 use borrow.Author.Tests.{eq-eqb, ne_eqb}
 use borrow.Author.Count.{below_more}
 use Rattle.bits.specs.Bits.{within, Added, Removed}
@@ -86,11 +86,19 @@ less_last list before {set} {set'} {y} less removed x low = (there (ℕ_discrete
     back (no d) (b, out) =
         removed_other removed x d ∙ (less x low).1 (b, λ m. out (in_append_left x list (y ∷ []) m))
 
--- the room's next entry is taken out
+-- the list's next entry is taken out
 pub less_next :
-    (room before : List ℕ) {set set' : List ℕ} (k : ℕ) → 256 + k < length room
-    → Less (take k (drop 256 room)) before set → Removed (get_or room (256 + k) 0) set set'
-    → Less (take (k + 1) (drop 256 room)) before set'
-less_next room before k h less removed =
-    rw (add-one k, take-suc (drop 256 room) k 0 (omega (arith, length-drop 256 room)), get_or-drop 256 room k 0)
-    (less_last (take k (drop 256 room)) before less removed)
+    (list before : List ℕ) {set set' : List ℕ} (k : ℕ) → k < length list
+    → Less (take k list) before set → Removed (get_or list k 0) set set'
+    → Less (take (k + 1) list) before set'
+less_next list before k h less removed =
+    rw (add-one k, take-suc list k 0 h) (less_last (take k list) before less removed)
+
+-- the list is the room's part behind 256
+pub less_all :
+    (room before set : List ℕ) (n k : ℕ) → length (take (256 + n - 256) (drop 256 room)) ≤ k
+    → Less (take k (take (256 + n - 256) (drop 256 room))) before set → Less (take n (drop 256 room)) before set
+less_all room before set n k h less =
+    let few : 256 + n - 256 ≡ n = omega arith in
+    let whole : take k (take (256 + n - 256) (drop 256 room)) ≡ take n (drop 256 room) = take_all k _ h ∙ ap (λ (m : ℕ). take m (drop 256 room)) few in
+    subst (λ (list : List ℕ). Less list before set) whole less

@@ -22,13 +22,11 @@ fn gather(actions: usize, acts: &[[u8; 6]; 256], steps: &[u16; 512], set: &mut [
         → ((i : ℕ) → within set.old i ≡ false)
         → HasJust (OnAWalk t) set.new }
 {
-    let mut i = 0;
-    while i < actions {
+    for i in 0..actions {
         let act = tables::action_at(acts, i);
         if steps[16 * tables::wide(act.var) + tables::wide(act.pre)] == (i + 2) as u16 {
             bits::add(set, i as u8);
         }
-        i += 1;
     }
 }
 
@@ -37,10 +35,8 @@ fn take_out(n: usize, room: &[u8; 512], set: &mut [u64; 4])
     requires { (n ≤ 256) × (length room.now ≡ 512) × (length set.old ≡ 4) }
     ensures { (length set.new ≡ 4) × Less (take n (drop 256 room.now)) set.old set.new }
 {
-    let mut k = 0;
-    while k < n {
-        bits::remove(set, room[256 + k]);
-        k += 1;
+    for action in &room[256..256 + n] {
+        bits::remove(set, *action);
     }
 }
 
@@ -64,7 +60,8 @@ pub fn left_over(
         → HasJust (Stuck t) left.new }
 {
     let mut wants = [0u16; 512];
-    wanting::want_all(file, actions, acts, steps, &mut wants);
+    // each condition is on its variable's walk, so nothing is refused
+    let _ = wanting::want_all(file, actions, acts, steps, &mut wants);
     let mut ranks = [0u8; 256];
     draw::draw(1, actions as u64, &mut ranks);
     let mut room = [0u8; 512];

@@ -16,15 +16,11 @@ fn all_hold(file: &[u8], act: Act, state: &[u8; 32]) -> bool
     ensures { (result ≡ true → HoldUpTo file.now act.place state.now act.many)
         × (result ≡ false → HoldUpTo file.now act.place state.now act.many → ⊥) }
 {
-    let many = act.many;
-    let mut at = act.place;
-    let mut k = 0;
-    while k < many {
-        if state[tables::wide(file[at + 1])] != file[at + 2] {
+    for k in 0..act.many {
+        let at = act.place + 3 * usize::from(k);
+        if state[usize::from(file[at + 1])] != file[at + 2] {
             return false;
         }
-        at += 3;
-        k += 1;
     }
     true
 }
@@ -34,14 +30,10 @@ fn unwant(file: &[u8], act: Act, wants: &mut [u16; 512])
     requires { Lowerable file.now act.place act.many wants.old × (length wants.old ≡ 512) }
     ensures { wants.new ≡ lowered_all file.now act.place act.many wants.old }
 {
-    let many = act.many;
-    let mut at = act.place;
-    let mut k = 0;
-    while k < many {
-        let j = 16 * tables::wide(file[at + 1]) + tables::wide(file[at + 2]);
-        wants[j] = wants[j] - 1;
-        at += 3;
-        k += 1;
+    for k in 0..act.many {
+        let at = act.place + 3 * usize::from(k);
+        let j = 16 * usize::from(file[at + 1]) + usize::from(file[at + 2]);
+        wants[j] -= 1;
     }
 }
 
@@ -93,15 +85,14 @@ fn pass(
     ensures { Passed file.now acts.now steps.now n wants.old state.old result wants.new state.new }
 {
     let mut k = 0;
-    let mut v = 0;
-    while v < n {
+    for v in 0..n {
         k += advance(file, v, acts, steps, wants, state);
-        v += 1;
     }
     k
 }
 
-// Pass after pass, until all are taken or a pass takes none. The counts are used up.
+// Pass after pass, until all are taken or a pass takes none. The counts are used up. What is counted grows by as many as a pass takes,
+// so this is no `for`.
 pub fn sweep(
     file: &[u8],
     n: usize,

@@ -1,12 +1,12 @@
 -- The tables that one pass over a file fills, as plain lists, and what it means that they hold a study.
 -- Assumes nothing.
-use Rattle.std.specs.Prelude.{ℕ, ◌+◌, ◌*◌, ◌≤◌, ◌<◌, ◌≡◌, true, List, eqb, length, get_or}
+use Rattle.std.specs.Prelude.{ℕ, ◌+◌, ◌*◌, ◌≤◌, ◌<◌, ◌≡◌, true, List, Result, Ok, Err, eqb, length, get_or}
+use Rattle.answer.specs.Answers.{number_of}
+use Rattle.answer.specs.declared.Refusal.{Refusal}
 use Rattle.study.specs.Study.{Condition, Action, Task, Crew, Roster, Study, in_force, action_at, task_at, crew_at, condition_at}
 use Rattle.study.specs.Reading.{says, refused, reading, reading_for}
 use Rattle.tables.specs.declared.Loaded.{Loaded}
-use Rattle.tables.specs.declared.Loaded.TheVariants as Said-of
 use Rattle.tables.specs.declared.Read.{Read}
-use Rattle.tables.specs.declared.Read.TheVariants as Read-of
 
 -- by variable and value, at 16 * v + q: the action in force that sets it;
 -- by action: its variable, pre and post, the place of its first condition in the file, how many it has, and 0 where it is in force
@@ -95,9 +95,9 @@ pub record Holds (file : List ℕ) (nv na x : ℕ) (t : Tables) (s : Study) : Ty
   pub seed : x ≡ s.seed
 
 -- what is loaded for a crew answers to what the file says to it
-abbrev pub Loads : List ℕ → ℕ → Tables → Loaded → Type 0
-Loads file crew t (Said-of.Study vars actions seed) = (s : Study) × (reading_for file crew ≡ says s) × Holds file vars actions seed t s
-Loads file crew t (Said-of.Refused n place) = reading_for file crew ≡ refused n place
+abbrev pub Loads : List ℕ → ℕ → Tables → Result Loaded Refusal → Type 0
+Loads file crew t (Ok l) = (s : Study) × (reading_for file crew ≡ says s) × Holds file l.vars l.actions l.seed t s
+Loads file crew t (Err r) = reading_for file crew ≡ refused (number_of r.rule) r.place
 
 -- ---- all crews, whose tasks and seeds stay in the file
 
@@ -132,6 +132,6 @@ pub record HoldsRoster (file : List ℕ) (nv na nc : ℕ) (t : Tables) (places :
   pub crews : HoldsCrews file nv nc places r.crews
 
 -- what is read answers to what the file says
-abbrev pub Reads : List ℕ → Tables → List ℕ → Read → Type 0
-Reads file t places (Read-of.Roster vars actions crews) = (r : Roster) × (reading file ≡ says r) × HoldsRoster file vars actions crews t places r
-Reads file t places (Read-of.Refused n place) = reading file ≡ refused n place
+abbrev pub Reads : List ℕ → Tables → List ℕ → Result Read Refusal → Type 0
+Reads file t places (Ok l) = (r : Roster) × (reading file ≡ says r) × HoldsRoster file l.vars l.actions l.crews t places r
+Reads file t places (Err r) = reading file ≡ refused (number_of r.rule) r.place

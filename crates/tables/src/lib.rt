@@ -3,36 +3,21 @@
 
 ghost use Rattle.std.specs.Prelude.{◌≡◌, ◌+◌, ◌*◌, ◌≤◌, ◌<◌, eqb, length, get_or};
 ghost use Rattle.tables.specs.Rows.{start_column, out_column, sets_in_row, opened_action, opened_variable_lem, OpensAction, OpensVariable, Begins};
-ghost use Rattle.tables.specs.Numbers.{not_loaded};
 
-use answer::Answer;
-
-// What a file says to a crew: how many variables and actions, and the seed; the rest is in the tables. Or the refusal.
+// What a file says to a crew: how many variables and actions, and the seed; the rest is in the tables.
 #[derive(Clone, Copy)]
-pub enum Loaded {
-    Study {
-        vars: usize,
-        actions: usize,
-        seed: u64,
-    },
-    Refused {
-        number: u8,
-        place: usize,
-    },
+pub struct Loaded {
+    pub vars: usize,
+    pub actions: usize,
+    pub seed: u64,
 }
 
-// What a file says of all crews: how many variables, actions and crews; the rest is in the tables. Or the refusal.
+// What a file says of all crews: how many variables, actions and crews; the rest is in the tables.
 #[derive(Clone, Copy)]
-pub enum Read {
-    Roster {
-        vars: usize,
-        actions: usize,
-        crews: usize,
-    },
-    Refused {
-        number: u8,
-        place: usize,
-    },
+pub struct Read {
+    pub vars: usize,
+    pub actions: usize,
+    pub crews: usize,
 }
 
 // An action: its variable, pre and post, how many conditions it has, and where the first stands in the file.
@@ -123,32 +108,7 @@ pub fn set_out(n: usize, vars: &[[u8; 3]; 32], state: &mut [u8; 32])
     requires { (n ≤ 32) × (length state.old ≡ 32) }
     ensures { Begins n (start_column vars.now) state.new }
 {
-    let mut v = 0;
-    while v < n {
-        let var = variable_at(vars, v);
-        state[v] = var.start;
-        v += 1;
-    }
-}
-
-// The refusal of a file that does not load.
-pub fn refused(found: Loaded) -> Answer
-    ensures { result ≡ not_loaded found }
-{
-    match found {
-        Loaded::Study {
-            vars: _,
-            actions: _,
-            seed: _,
-        } => Answer {
-            number: 0,
-            first: 0,
-            second: 0,
-        },
-        Loaded::Refused { number, place } => Answer {
-            number: number as u64,
-            first: place as u64,
-            second: 0,
-        },
+    for v in 0..n {
+        state[v] = variable_at(vars, v).start;
     }
 }

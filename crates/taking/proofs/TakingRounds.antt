@@ -21,7 +21,7 @@ use Rattle.walks.proofs.Leads.{on_walk_usable}
 use Rattle.walks.proofs.Wanted.{wanted_there}
 use Rattle.walks.proofs.Straight.{kept_first}
 use Rattle.wanting.specs.Wanting.{wanted}
-use Rattle.choosing.specs.declared.Choice.TheVariants.{Action, Nothing}
+use Rattle.std.specs.Prelude.{Some, None}
 use Rattle.bits.specs.Bits.{Removed}
 use Rattle.opening.specs.Conditions.{entry_at, Lowerable, lowered_all}
 use Rattle.opening.specs.Opening.{step_of, Joined, Opens, Freed, Woken, Placed}
@@ -161,7 +161,7 @@ module _ {file ranks : List ℕ} {n total : ℕ} {vars posts places manys steps 
   }
 
   -- none that looks ready: none is
-  pub ends_stuck : Chosen ranks n file places manys steps wants state Nothing → (t : Study) → Prep t → TakenGreedily t ranks (take k (drop 256 room))
+  pub ends_stuck : Chosen ranks n file places manys steps wants state None → (t : Study) → Prep t → TakenGreedily t ranks (take k (drop 256 room))
   ends_stuck none t prep =
       greedy_ended (OnAWalk t) (ComesBefore t) (λ i. get_or ranks i 0) (take k (drop 256 room)) (under.going t prep).greedy
       (λ y ready. none (var_of t y) y (omega (arith, ready.is_member.there, prep.variables)) (is_so_looks prep (under.going t prep) ready))
@@ -183,7 +183,7 @@ module _ {file ranks : List ℕ} {n total : ℕ} {vars posts places manys steps 
 
   -- ---- one chosen
 
-  module _ {i : ℕ} (chosen : Chosen ranks n file places manys steps wants state (Action i)) where
+  module _ {i : ℕ} (chosen : Chosen ranks n file places manys steps wants state (Some i)) where
     chosen_ready : {t : Study} → Prep t → Ready (OnAWalk t) (ComesBefore t) (λ y. In y (take k (drop 256 room))) i
     chosen_ready prep =
         looks_so_is prep (under.going _ prep) (omega (arith, chosen.0.1.0, prep.variables)) chosen.0.1.1

@@ -29,8 +29,7 @@ pub fn take_all(
     let mut opened = [0u64; 4];
     let mut waiting = [0u64; 32];
     opening::open_all(n, ranks, steps, wants, state, &mut opened);
-    let mut k = 0;
-    while k < total {
+    for k in 0..total {
         let next = choosing::best(
             file,
             acts,
@@ -40,7 +39,7 @@ pub fn take_all(
             &mut opened,
             &mut waiting,
         );
-        let choosing::Choice::Action(i) = next else {
+        let Some(i) = next else {
             return k;
         };
         let a = tables::action_at(acts, i);
@@ -54,7 +53,6 @@ pub fn take_all(
         waiting[v] = 0;
         opening::wake(some, ranks, steps, state, &mut opened);
         room[256 + k] = i as u8;
-        k += 1;
     }
-    k
+    total
 }

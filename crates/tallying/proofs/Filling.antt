@@ -66,35 +66,46 @@ pub put_back :
     → take at report ++ (row ++ drop (at + actions - at) (drop at report)) ≡ take at report ++ (filled ++ drop (at + actions) report)
 put_back report at actions is = rw (add-sub_cancel_left at actions, drop-drop actions at report, is)
 
--- the first p rows are filled, up to this place, for the n plans that are kept
-pub record FilledTo (kept : List ℕ) (base stride len n actions : ℕ) (before : List ℕ) (p at : ℕ) (report : List ℕ) : Type 0 where
-  pub place : at ≡ 5 + actions * p
+-- the place of row p
+abbrev pub place : ℕ → ℕ → ℕ
+place actions p = 5 + actions * p
+
+-- the first p rows are filled, for the n plans that are kept
+pub record FilledTo (kept : List ℕ) (base stride len n actions : ℕ) (before : List ℕ) (p : ℕ) (report : List ℕ) : Type 0 where
   pub long : length report ≡ length before
-  pub ahead : drop at report ≡ drop at before
-  pub filled : (plans : List (List ℕ)) → length plans ≡ n → Kept kept base stride len plans → take at report ≡ take 5 before ++ rows plans actions 0 p
+  pub ahead : drop (place actions p) report ≡ drop (place actions p) before
+  pub filled : (plans : List (List ℕ)) → length plans ≡ n → Kept kept base stride len plans → take (place actions p) report ≡ take 5 before ++ rows plans actions 0 p
 
 module _ {kept : List ℕ} {base stride len n actions : ℕ} {before : List ℕ} where
-  pub none_filled : FilledTo kept base stride len n actions before 0 5 before
+  pub none_filled : FilledTo kept base stride len n actions before 0 before
   unfolding rows
-  none_filled = record { place = omega arith; long = refl; ahead = refl; filled = λ plans each held. sym (append-nil (take 5 before)) }
+  none_filled =
+      let first : place actions 0 ≡ 5 = omega arith in
+      record { long = refl; ahead = refl; filled = λ plans each held. rw first (sym (append-nil (take 5 before))) }
 
-  module _ {p at : ℕ} {report : List ℕ} (to : FilledTo kept base stride len n actions before p at report) where
-    pub row_fits : RoomFor 5 actions len before → p < len → at + actions ≤ length report
-    row_fits room h = omega (arith, to.place, to.long, row_within actions h)
+  module _ {p : ℕ} {report : List ℕ} (to : FilledTo kept base stride len n actions before p report) where
+    pub row_fits : RoomFor 5 actions len before → p < len → place actions p + actions ≤ length report
+    row_fits room h = omega (arith, to.long, row_within actions h)
 
     pub one_filled :
         {entries after : List ℕ} → RoomFor 5 actions len before → p < len → ColumnOf kept base stride n p entries
-        → after ≡ take at report ++ (tallied entries actions ++ drop (at + actions) report)
-        → FilledTo kept base stride len n actions before (p + 1) (at + actions) after
+        → after ≡ take (place actions p) report ++ (tallied entries actions ++ drop (place actions p + actions) report)
+        → FilledTo kept base stride len n actions before (p + 1) after
     one_filled {entries} {after} room h column is-after = record {
-      place = omega (arith, to.place);
       long = rw after_is (omega (arith, length-append front rest, front_long, length-drop (at + actions) report, to.long, row_fits room h));
-      ahead = rw (after_is, drop_at front rest (at + actions) front_long, ← drop-drop actions at report, ← drop-drop actions at before, to.ahead);
+      ahead = rw next (rw (after_is, drop_at front rest (at + actions) front_long, ← drop-drop actions at report, ← drop-drop actions at before, to.ahead));
       filled = λ plans each held.
-          rw (after_is, take_at front rest (at + actions) front_long, to.filled plans each held, column_tallied column h actions each held)
-          (append_assoc (take 5 before) (rows plans actions 0 p) _ ∙ rw (rows_next plans actions p));
+          rw next
+          (rw (after_is, take_at front rest (at + actions) front_long, to.filled plans each held, column_tallied column h actions each held)
+          (append_assoc (take 5 before) (rows plans actions 0 p) _ ∙ rw (rows_next plans actions p)));
     }
       where
+        at : ℕ
+        at = place actions p
+
+        next : place actions (p + 1) ≡ at + actions
+        next = omega arith
+
         front : List ℕ
         front = take at report ++ tallied entries actions
 
@@ -114,9 +125,9 @@ module _ {kept : List ℕ} {base stride len n actions : ℕ} {before : List ℕ}
         after_is = is-after ∙ sym (append_assoc (take at report) (tallied entries actions) rest)
 
   pub all_filled :
-      {p at : ℕ} {report : List ℕ} → FilledTo kept base stride len n actions before p at report → p ≡ len
+      {p : ℕ} {report : List ℕ} → FilledTo kept base stride len n actions before p report → p ≡ len
       → (plans : List (List ℕ)) → length plans ≡ n → Kept kept base stride len plans
       → report ≡ take 5 before ++ (rows plans actions 0 len ++ drop (5 + actions * len) before)
-  all_filled {p} {at} {report} to all plans each held =
-      sym (take-append-drop at report)
-      ∙ rw (to.filled plans each held, to.ahead, to.place, all) (append_assoc (take 5 before) (rows plans actions 0 len) _)
+  all_filled {p} {report} to all plans each held =
+      sym (take-append-drop (place actions p) report)
+      ∙ rw (to.filled plans each held, to.ahead, all) (append_assoc (take 5 before) (rows plans actions 0 len) _)

@@ -6,27 +6,14 @@ ghost use Rattle.varied.specs.Figures.{rows};
 ghost use Rattle.matching.specs.Kept.{Kept, RoomFor, KeptBelow};
 ghost use Rattle.tallying.specs.Tallied.{tallied, AllBelow};
 
-fn clear(row: &mut [u8])
-    ensures { row.new ≡ replicate (length row.old) 0 }
-{
-    let mut i = 0;
-    while i < row.len() {
-        row[i] = 0;
-        i += 1;
-    }
-}
-
 // Counts the entries, each of them the number of an action, in a row that is clear.
 fn count(entries: &[u8], row: &mut [u8])
     requires { (length entries.now ≤ 64) × AllBelow (length row.old) entries.now
         × (row.old ≡ replicate (length row.old) 0) }
     ensures { row.new ≡ tallied entries.now (length row.old) }
 {
-    let mut k = 0;
-    while k < entries.len() {
-        let i = tables::wide(entries[k]);
-        row[i] += 1;
-        k += 1;
+    for entry in entries {
+        row[tables::wide(*entry)] += 1;
     }
 }
 
@@ -35,7 +22,7 @@ fn tally(entries: &[u8], row: &mut [u8])
     requires { (length entries.now ≤ 64) × AllBelow (length row.old) entries.now }
     ensures { row.new ≡ tallied entries.now (length row.old) }
 {
-    clear(row);
+    row.fill(0);
     count(entries, row);
 }
 
@@ -47,28 +34,12 @@ pub fn rows_from(n: usize, len: usize, actions: usize, kept: &[u8], report: &mut
         → Kept kept.now 0 64 len plans
         → report.new ≡ take 5 report.old ++ (rows plans actions 0 len ++ drop (5 + actions * len) report.old) }
 {
-    let mut p = 0;
-    let mut from = 0;
-    let mut at = 5;
-    while p < len {
+    for p in 0..len {
+        let from = 64 * p;
         let to = from + n;
+        let at = 5 + actions * p;
         let next = at + actions;
         tally(&kept[from..to], &mut report[at..next]);
-        from += 64;
-        at = next;
-        p += 1;
-    }
-}
-
-// Copies what each plan has at a position.
-fn column(at: usize, n: usize, region: &[u8], entries: &mut [u8; 64])
-    requires { (n ≤ 64) × (at + n ≤ length region.now) × (length entries.old ≡ 64) }
-    ensures { (length entries.new ≡ 64) × (take n entries.new ≡ take n (drop at region.now)) }
-{
-    let mut k = 0;
-    while k < n {
-        entries[k] = region[at + k];
-        k += 1;
     }
 }
 
@@ -79,9 +50,8 @@ fn tally_in_place(at: usize, n: usize, actions: usize, report: &mut [u8])
         ++ (tallied (take n (drop at report.old)) actions ++ drop (at + actions) report.old) }
 {
     let mut entries = [0u8; 64];
-    column(at, n, report, &mut entries);
-    let end = at + actions;
-    tally(&entries[0..n], &mut report[at..end]);
+    entries[..n].copy_from_slice(&report[at..at + n]);
+    tally(&entries[..n], &mut report[at..at + actions]);
 }
 
 // Fills the report's rows from up to 64 plans that are kept in them.
@@ -92,11 +62,7 @@ pub fn rows_in_place(n: usize, len: usize, actions: usize, report: &mut [u8])
         → Kept report.old 5 actions len plans
         → report.new ≡ take 5 report.old ++ (rows plans actions 0 len ++ drop (5 + actions * len) report.old) }
 {
-    let mut p = 0;
-    let mut at = 5;
-    while p < len {
-        tally_in_place(at, n, actions, report);
-        at += actions;
-        p += 1;
+    for p in 0..len {
+        tally_in_place(5 + actions * p, n, actions, report);
     }
 }

@@ -36,12 +36,10 @@ pub fn plan(list: &[u8], acts: &[[u8; 6]; 256], out: &mut [u8]) -> usize
         × (take result out.new ≡ plan_text (shown_in (var_column acts.now) (pre_column acts.now) (post_column acts.now)) list.now) }
 {
     let mut at = first(list.len(), out);
-    let mut k = 0;
-    while k < list.len() {
-        let action = tables::wide(list[k]);
+    for (k, action) in list.iter().enumerate() {
+        let action = usize::from(*action);
         let a = tables::action_at(acts, action);
         at = step(out, at, k, action, a.var, a.pre, a.post);
-        k += 1;
     }
     at
 }

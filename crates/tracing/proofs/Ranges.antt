@@ -8,7 +8,7 @@ use lib.ListN.{length, get_or}
 use Rattle.study.specs.Study.{Study}
 use Rattle.lawful.specs.Lawful.{Has, Lawful}
 use Rattle.walks.specs.Walks.{pre_of, post_of, start_of, goal_of}
-use Rattle.tracing.specs.Facts.{Tells, Moves}
+use Rattle.tracing.specs.Facts.{Moves}
 
 module _ {t : Study} (lawful : Lawful t) where
   value_small : {v q : ℕ} → Has t.counts v q → q < 16
@@ -25,10 +25,6 @@ module _ {t : Study} (lawful : Lawful t) where
 
   pub goal_small : (v : ℕ) → v < length t.tasks → goal_of t v < 16
   goal_small v h = value_small (lawful.has_goal v h)
-
-  -- .. as the table tells it
-  pub told_goal_small : {n : ℕ} → n ≡ length t.tasks → (goals : List ℕ) → Tells goal_of n goals t → (v : ℕ) → v < n → get_or goals v 0 < 16
-  told_goal_small count goals tells v h = rw (tells v h) (goal_small v (omega arith))
 
   pub few_tasks : length t.tasks ≤ 32
   few_tasks = omega (arith, lawful.a_task_each, lawful.few_variables)

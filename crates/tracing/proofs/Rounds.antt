@@ -7,11 +7,11 @@ use native.Mathlib.Omega.{arith}
 use lib.ListN.{length, get_or, set}
 use Rattle.study.specs.Study.{Study}
 use Rattle.walks.specs.Walks.{start_of, goal_of}
-use Rattle.walks.specs.Breaks.{came_round}
 use Rattle.tracing.specs.Facts.{Moves, Tells}
 use Rattle.tracing.specs.Steps.{EmptyRow, told, Traces, WalksAll}
-use Rattle.tracing.specs.declared.Walked.TheVariants.{NoWalk}
-use Rattle.tracing.specs.declared.Traced.TheVariants.{Met, Breaks, Round}
+use Rattle.std.specs.Prelude.{Ok, Err}
+use Rattle.tracing.specs.declared.Break.{Break}
+use Rattle.tracing.specs.declared.Break.TheVariants.{At, Round}
 use Rattle.tracing.proofs.WalksEntered.{Entered, one_more_entered, breaks_off, goes_round}
 use Rattle.tracing.proofs.TraceEnds.{met_told}
 
@@ -42,8 +42,8 @@ module _ {n a : ℕ} {setters vars pres posts outs starts goals steps₀ steps :
   traced : (t : Study) → Told n a setters vars pres posts outs starts goals steps₀ t → Traces t v (goal_of t v) 16 0 (set steps (16 * v + goal_of t v) 1) steps' (told r)
   traced t told = rw (told.tells_goal v low) at (ensures.1 t told.moves (sym (told.tells_start v low)))
 
-  -- the number is that of a walk, or of a break
-  pub goes_on : {k : ℕ} → told r ≡ Met k → Underway n a setters vars pres posts outs starts goals steps₀ steps' (total + k) (v + 1)
+  -- a walk was entered, or the trace breaks off
+  pub goes_on : {k : ℕ} → told r ≡ Ok k → Underway n a setters vars pres posts outs starts goals steps₀ steps' (total + k) (v + 1)
   goes_on {k} is =
       let (e, small) = met_told r k is in
       record {
@@ -56,13 +56,20 @@ module _ {n a : ℕ} {setters vars pres posts outs starts goals steps₀ steps :
             under.sized (rw is at (traced t told)).comes;
       }
 
-  pub stops_broken :
-      {p : ℕ} → told r ≡ Breaks p → (t : Study) → Told n a setters vars pres posts outs starts goals steps₀ t
-      → WalksAll t n steps' (NoWalk v p)
-  stops_broken is t told =
+  pub stops :
+      (b : Break) → told r ≡ Err b → (t : Study) → Told n a setters vars pres posts outs starts goals steps₀ t
+      → WalksAll t n steps' (Err (record { var = v; breaks = b }))
+  stops (At p) is t told =
       breaks_off told.moves.lawful (omega (arith, told.count)) steps total (under.entered t told) (rw is at (traced t told)).comes
+  stops Round is t told =
+      goes_round told.moves.lawful (omega (arith, told.count)) steps total (under.entered t told) (rw is at (traced t told)).comes
+
+  pub stops_broken :
+      {p : ℕ} → told r ≡ Err (At p) → (t : Study) → Told n a setters vars pres posts outs starts goals steps₀ t
+      → WalksAll t n steps' (Err (record { var = v; breaks = At p }))
+  stops_broken is = stops _ is
 
   pub stops_round :
-      told r ≡ Round → (t : Study) → Told n a setters vars pres posts outs starts goals steps₀ t → WalksAll t n steps' (NoWalk v came_round)
-  stops_round is t told =
-      goes_round told.moves.lawful (omega (arith, told.count)) steps total (under.entered t told) (rw is at (traced t told)).comes
+      told r ≡ Err Round → (t : Study) → Told n a setters vars pres posts outs starts goals steps₀ t
+      → WalksAll t n steps' (Err (record { var = v; breaks = Round }))
+  stops_round is = stops _ is

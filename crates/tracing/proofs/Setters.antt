@@ -13,7 +13,7 @@ use Rattle.plans.specs.Plans.{Usable}
 use Rattle.walks.specs.Walks.{var_of, post_of}
 use Rattle.tracing.specs.Facts.{NamesUsable, Moves}
 use Rattle.tracing.specs.Steps.{SetterIs}
-use Rattle.tracing.specs.declared.Named.TheVariants.{Is, Nobody}
+use Rattle.std.specs.Prelude.{Some, None}
 
 -- the table names any action in force for the value that it sets
 pub names_usable :
@@ -26,11 +26,11 @@ module _ {actions : ℕ} {setters vars pres posts outs : List ℕ} {t : Study} (
   names_it : (j : ℕ) → Usable t j → var_of t j ≡ v → post_of t j ≡ q → i ≡ j
   names_it j u e f = named ∙ names_usable setters moves.actions moves.names j u e f
 
-  pub none_named : actions ≤ i → SetterIs t v q Nobody
+  pub none_named : actions ≤ i → SetterIs t v q None
   none_named h j u e f = omega (arith, moves.actions, u.there, names_it j u e f)
 
   module _ (there : i < actions) where
-    pub is_setter : (eqb (get_or vars i 0) v && (eqb (get_or posts i 0) q && eqb (get_or outs i 0) 0)) ≡ true → SetterIs t v q (Is i)
+    pub is_setter : (eqb (get_or vars i 0) v && (eqb (get_or posts i 0) q && eqb (get_or outs i 0) 0)) ≡ true → SetterIs t v q (Some i)
     is_setter e =
         let (own, rest) = (and-eq-true_iff (eqb (get_or vars i 0) v) (eqb (get_or posts i 0) q && eqb (get_or outs i 0) 0)).0 e in
         let (value, force) = (and-eq-true_iff (eqb (get_or posts i 0) q) (eqb (get_or outs i 0) 0)).0 rest in (
@@ -39,7 +39,7 @@ module _ {actions : ℕ} {setters vars pres posts outs : List ℕ} {t : Study} (
           sym (moves.tells_post i there) ∙ eqb-true (get_or posts i 0) q value,
         )
 
-    pub other_set : (eqb (get_or vars i 0) v && (eqb (get_or posts i 0) q && eqb (get_or outs i 0) 0)) ≡ false → SetterIs t v q Nobody
+    pub other_set : (eqb (get_or vars i 0) v && (eqb (get_or posts i 0) q && eqb (get_or outs i 0) 0)) ≡ false → SetterIs t v q None
     other_set e j u f g = true≢false (sym sets ∙ e)
       where
         sets : (eqb (get_or vars i 0) v && (eqb (get_or posts i 0) q && eqb (get_or outs i 0) 0)) ≡ true

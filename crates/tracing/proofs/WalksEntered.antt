@@ -18,7 +18,7 @@ use Rattle.tracing.specs.Steps.{RowTo, EmptyRow, WayEntered, BrokenOff, GoneOn, 
 use Rattle.walks.specs.Breaks.{Breaks, unset, round, came_round}
 use Rattle.walks.proofs.Breaks.{twice_round, walk_never_breaks}
 use Rattle.planning.specs.Planning.{LowestWithout}
-use Rattle.tracing.specs.declared.Walked.TheVariants.{All}
+use Rattle.std.specs.Prelude.{Ok}
 use Rattle.tracing.proofs.Ranges.{pre_small, start_small, goal_small, few_tasks}
 use Rattle.tracing.proofs.Few.{trail_short}
 use Rattle.tracing.proofs.Entering.{SameRows, row_entered, same_rows}
@@ -134,7 +134,7 @@ module _ {t : Study} (lawful : Lawful t) where
           lowest_without_lem (round (twice_round p passed back (λ d. omega (arith, long, trail_short lawful (start_small lawful v there) back d))))
 
 pub all_entered :
-    {t : Study} {n : ℕ} {steps : List ℕ} {total : ℕ} → n ≡ length t.tasks → Entered t n steps total → WalksAll t n steps (All total)
+    {t : Study} {n : ℕ} {steps : List ℕ} {total : ℕ} → n ≡ length t.tasks → Entered t n steps total → WalksAll t n steps (Ok total)
 all_entered e entered =
     let m = entered.members in (
       entered.rowed,

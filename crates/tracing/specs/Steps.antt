@@ -1,24 +1,21 @@
 -- The table of steps: by variable and value, at 16 * v + q, 2 more than the walk action that leaves the value, 1 at the walk's end, 0 off the walk.
 -- Assumes nothing.
-use Rattle.std.specs.Prelude.{ℕ, ◌+◌, ◌-◌, ◌*◌, ◌<◌, ◌≡◌, ◌≢◌, List, eqb, ltb, length, get_or}
+use Rattle.std.specs.Prelude.{ℕ, ◌+◌, ◌-◌, ◌*◌, ◌<◌, ◌≡◌, ◌≢◌, List, eqb, ltb, length, get_or, Option, Some, None, Result, Ok, Err}
 use Rattle.plain.specs.Choose.{pick}
 use Rattle.study.specs.Study.{Study}
 use Rattle.plans.specs.Plans.{Usable}
 use Rattle.orders.specs.Orders.{In, Distinct}
 use Rattle.walks.specs.Walks.{Way, Walk, OnAWalk, var_of, pre_of, post_of, start_of, goal_of}
-use Rattle.walks.specs.Breaks.{Trail, Unset}
+use Rattle.walks.specs.Breaks.{Trail, Unset, came_round}
 use Rattle.planning.specs.Planning.{LowestWithout}
-use Rattle.tracing.specs.declared.Named.{Named}
-use Rattle.tracing.specs.declared.Named.TheVariants.{Is, Nobody}
-use Rattle.tracing.specs.declared.Walked.{Walked}
-use Rattle.tracing.specs.declared.Walked.TheVariants.{All, NoWalk}
-use Rattle.tracing.specs.declared.Traced.{Traced}
-use Rattle.tracing.specs.declared.Traced.TheVariants.{Met, Breaks, Round}
+use Rattle.tracing.specs.declared.Break.{Break}
+use Rattle.tracing.specs.declared.Break.TheVariants.{At, Round}
+use Rattle.tracing.specs.declared.NoWalk.{NoWalk}
 
 -- the usable action that sets v to q, or that none does
-abbrev pub SetterIs : Study → ℕ → ℕ → Named → Type 0
-SetterIs t v q (Is i) = Usable t i × (var_of t i ≡ v) × (post_of t i ≡ q)
-SetterIs t v q Nobody = Unset t v q
+abbrev pub SetterIs : Study → ℕ → ℕ → Option ℕ → Type 0
+SetterIs t v q (Some i) = Usable t i × (var_of t i ≡ v) × (post_of t i ≡ q)
+SetterIs t v q None = Unset t v q
 
 -- row v of the table, for a list that leads from the start to q
 pub record RowTo (t : Study) (v : ℕ) (list : List ℕ) (q : ℕ) (steps : List ℕ) : Type 0 where
@@ -49,17 +46,22 @@ abbrev pub GoneOn : Study → ℕ → ℕ → ℕ → Type 0
 GoneOn t v q left = (p : ℕ) × ((passed : List ℕ) × (Trail t v p passed q × (length passed ≡ left)))
 
 -- what the number of a trace says: how many actions the walk has; 32 more than a value; 255
-abbrev pub told : ℕ → Traced
-told r = pick (ltb r 32) (Met r) (pick (eqb r 255) Round (Breaks (r - 32)))
+abbrev pub told : ℕ → Result ℕ Break
+told r = pick (ltb r 32) (Ok r) (pick (eqb r 255) (Err Round) (Err (At (r - 32))))
+
+-- where a trace breaks off, in a number: the value that it came to, or 255 where it comes round
+abbrev pub value_of : Break → ℕ
+value_of (At q) = q
+value_of Round = came_round
 
 -- it entered the way, or broke off, or passed as many as it may
-abbrev pub ComesTo : Study → ℕ → ℕ → ℕ → ℕ → List ℕ → List ℕ → Traced → Type 0
-ComesTo t v q left passed steps steps' (Met r) = WayEntered t v q passed steps steps' r
-ComesTo t v q left passed steps steps' (Breaks p) = BrokenOff t v q p
-ComesTo t v q left passed steps steps' Round = GoneOn t v q left
+abbrev pub ComesTo : Study → ℕ → ℕ → ℕ → ℕ → List ℕ → List ℕ → Result ℕ Break → Type 0
+ComesTo t v q left passed steps steps' (Ok r) = WayEntered t v q passed steps steps' r
+ComesTo t v q left passed steps steps' (Err (At p)) = BrokenOff t v q p
+ComesTo t v q left passed steps steps' (Err Round) = GoneOn t v q left
 
 -- a trace from q that may pass `left` more values
-pub record Traces (t : Study) (v q left passed : ℕ) (steps steps' : List ℕ) (r : Traced) : Type 0 where
+pub record Traces (t : Study) (v q left passed : ℕ) (steps steps' : List ℕ) (r : Result ℕ Break) : Type 0 where
   pub comes : ComesTo t v q left passed steps steps' r
 
 -- the rows of the first m variables hold their walks
@@ -72,6 +74,6 @@ pub record Members (t : Study) (list : List ℕ) : Type 0 where
   pub all : (x : ℕ) → OnAWalk t x → In x list
   pub only : (x : ℕ) → In x list → OnAWalk t x
 
-abbrev pub WalksAll : Study → ℕ → List ℕ → Walked → Type 0
-WalksAll t n steps (All total) = Rowed t n steps × ((list : List ℕ) × (Members t list × (length list ≡ total)))
-WalksAll t n steps (NoWalk v b) = LowestWithout t v b
+abbrev pub WalksAll : Study → ℕ → List ℕ → Result ℕ NoWalk → Type 0
+WalksAll t n steps (Ok total) = Rowed t n steps × ((list : List ℕ) × (Members t list × (length list ≡ total)))
+WalksAll t n steps (Err w) = LowestWithout t w.var (value_of w.breaks)

@@ -55,15 +55,11 @@ fn print_records(input: &[u8], n: usize)
         intake::four_at(input, 8),
         intake::file_end(12, n, input.len()),
     );
-    let mut left = (file - 12) / 4 + 1;
-    let mut len = 0;
-    while 0 < left {
+    for events in 0..=(file - 12) / 4 {
         let mut occupant = [0u8; 40];
-        if trail_call::replay_first(input, n, len, &mut occupant).number != 0 {
+        if trail_call::replay_first(input, n, 4 * events, &mut occupant).number != 0 {
             return;
         }
         io::write_all(STDOUT_FILENO, &occupant);
-        len += 4;
-        left -= 1;
     }
 }

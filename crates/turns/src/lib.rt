@@ -5,8 +5,6 @@ ghost use Rattle.std.specs.Prelude.{◌≡◌};
 ghost use Rattle.study.specs.Reading.{reading};
 ghost use Rattle.turns.specs.Turns.{turns_in};
 
-use tables::Read;
-
 pub fn in_file(file: &[u8]) -> u64
     ensures { result ≡ turns_in (reading file.now) }
 {
@@ -14,16 +12,8 @@ pub fn in_file(file: &[u8]) -> u64
     let mut vars = [[0u8; 3]; 32];
     let mut setters = [0u8; 512];
     let mut places = [0u16; 8];
-    let read = loader::load(file, &mut acts, &mut vars, &mut setters, &mut places);
-    match read {
-        Read::Roster {
-            vars: _,
-            actions: _,
-            crews,
-        } => crews as u64,
-        Read::Refused {
-            number: _,
-            place: _,
-        } => 1,
+    match loader::load(file, &mut acts, &mut vars, &mut setters, &mut places) {
+        Ok(read) => read.crews as u64,
+        Err(_) => 1,
     }
 }

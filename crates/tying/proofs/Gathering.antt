@@ -1,8 +1,8 @@
 -- The words of a word's numbers joined to it one after another.
 -- Assumes nothing.
-use mathlib.Core.Path.{◌≡◌, refl, sym, ◌∙◌}
+use mathlib.Core.Path.{◌≡◌, sym, ◌∙◌}
 use mathlib.Core.Logic.{◌⊎◌, inl, inr}
-use mathlib.Core.Bool.{true, not, ◌&&◌, ◌||◌, or-true}
+use mathlib.Core.Bool.{not, ◌&&◌, ◌||◌, or-true}
 use mathlib.Core.List.{List}
 use Prim.Native.Nat.{ℕ}
 use native.Mathlib.Decide.{ℕ_discrete}

@@ -1,10 +1,10 @@
 -- What was taken greedily of members that are tied: fewer than all, and there is a circle; or all, each behind what is tied before it.
 -- Assumes nothing.
-use mathlib.Core.Path.{◌≡◌, refl, sym, ap, subst, ◌∙◌}
-use mathlib.Core.Logic.{◌⊎◌, inl, inr, ◌≢◌}
+use mathlib.Core.Path.{◌≡◌, refl, sym, ap, ◌∙◌}
+use mathlib.Core.Logic.{inl, inr}
 use mathlib.Core.Bool.{Bool, true, false, false≢true}
 use mathlib.Core.List.{List, [], ◌∷◌, map}
-use Prim.Native.Nat.{ℕ, zero, suc, ◌+◌, ◌<◌, ◌≤◌}
+use Prim.Native.Nat.{ℕ, zero, suc, ◌<◌, ◌≤◌}
 use native.Mathlib.Omega.{arith}
 use native.Mathlib.Decide.{dec_lt}
 use lib.ListN.{length, get_or, drop, length-drop, get_or-eq_default}
@@ -14,7 +14,7 @@ use Rattle.bits.proofs.Words.{bit_zero}
 use Rattle.orders.specs.Orders.{In, Distinct, StandsBefore, None, Takes, Order, OnRing, Counted}
 use Rattle.orders.proofs.Lists.{fewer_miss_one, distinct_fills, entry_in, in_has_place, distinct_entries_differ}
 use Rattle.orders.proofs.Members.{takes_distinct, takes_members, all_taken_is_order}
-use Rattle.orders.proofs.Grown.{NoneReady, greedy_so_far, greedy_so_far_takes, greedy_none_ready, none_ready_same, by_all}
+use Rattle.orders.proofs.Grown.{greedy_so_far, greedy_so_far_takes, greedy_none_ready, none_ready_same, by_all}
 use Rattle.orders.proofs.Stuck.{stuck_has_ring}
 use Rattle.orders.proofs.Standing.{order_stands, stands_before_in}
 use Rattle.orders.proofs.Rings.{ring_bars_orders}

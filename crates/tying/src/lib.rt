@@ -7,7 +7,7 @@ ghost use Rattle.linking.specs.Linking.{Anyone, ClosesTo};
 ghost use Rattle.hanging.specs.Hanging.{InWord};
 ghost use Rattle.tying.specs.Tying.{InPlace, Tied, Low, Among, Sorts, Gathered};
 
-use linking::Closed;
+use linking::Circle;
 
 // So many numbers a word has.
 const FEW: usize = 64;
@@ -17,10 +17,8 @@ pub fn number_all(room: &mut [u8])
     requires { 64 ≤ length room.old }
     ensures { (length room.new ≡ length room.old) × InPlace room.new }
 {
-    let mut i = 0;
-    while i < FEW {
-        room[i] = i as u8;
-        i += 1;
+    for (i, place) in room[..FEW].iter_mut().enumerate() {
+        *place = i as u8;
     }
 }
 
@@ -43,16 +41,19 @@ fn gather_all(total: usize, room: &[u8; 512], words: &mut [u64; 64])
     requires { (total ≤ 256) × (length room.now ≡ 512) × (length words.old ≡ 64) × Sorts room.now total words.old }
     ensures { (x y : ℕ) → Tied words.new x y ↔ Chain Anyone (Tied words.old) x y }
 {
-    let mut k = 0;
-    while k < total {
+    for k in 0..total {
         let y = room[256 + k] as usize;
         words[y] = gathered(words[y], words);
-        k += 1;
     }
 }
 
 // Numbers that are tied, all of them members. The room is used up.
-pub fn close(members: u64, total: usize, words: &mut [u64; 64], room: &mut [u8; 512]) -> Closed
+pub fn close(
+    members: u64,
+    total: usize,
+    words: &mut [u64; 64],
+    room: &mut [u8; 512],
+) -> Result<(), Circle>
     requires { (total ≤ 256) × (length words.old ≡ 64) × Counted (InWord members) total
         × Among members words.old × Low members × (length room.old ≡ 512) }
     ensures { ClosesTo (Tied words.old) (Tied words.new) result }
@@ -60,8 +61,8 @@ pub fn close(members: u64, total: usize, words: &mut [u64; 64], room: &mut [u8; 
     number_all(room);
     let taken = hanging::take_looking(members, total, words, room);
     if taken < total {
-        return Closed::Circle;
+        return Err(Circle);
     }
     gather_all(total, room, words);
-    Closed::Chains
+    Ok(())
 }

@@ -11,7 +11,7 @@ use borrow.Author.Tests.{eq-eqb, ne_eqb}
 use Rattle.answer.specs.Answers.{done}
 use Rattle.answer.specs.declared.Answer.{Answer}
 use Rattle.ranking.specs.Ranking.{tested}
-use Rattle.ranking.specs.declared.Tested.TheVariants.{Fine}
+use Rattle.std.specs.Prelude.{Ok}
 use Rattle.ranking.proofs.Fine.{rank_list_is_fine}
 use Rattle.draw.specs.Draw.{drawn}
 use Rattle.draw.proofs.Drawn.{drawn_is_rank_list}
@@ -53,7 +53,7 @@ module _ (t : Study) (seed : ℕ) where
   abbrev seeded : List ℕ
   seeded = drawn seed (length t.actions)
 
-  drawn_fine : tested seeded (length t.actions) ≡ Fine
+  drawn_fine : tested seeded (length t.actions) ≡ Ok tt
   drawn_fine = rank_list_is_fine (drawn_is_rank_list seed (length t.actions))
 
   barred_plans : {r : Answer} → Barred t r → Plans t seeded any_room r any_room

@@ -16,7 +16,7 @@ use Rattle.planning.specs.Planning.{LowestOff, Plans, off_walk_lem}
 use Rattle.planning.specs.Refusals.{off_walk}
 use Rattle.tracing.specs.Facts.{Wishes}
 use Rattle.tracing.specs.Steps.{Rowed, Members, WalksAll}
-use Rattle.tracing.specs.declared.Walked.TheVariants.{All}
+use Rattle.std.specs.Prelude.{Ok}
 use Rattle.wanting.specs.Wanting.{Counts}
 use Rattle.ordering.specs.Ordering.{Orderable}
 use Rattle.renaming.specs.Renaming.{ByAction}
@@ -92,7 +92,7 @@ module _
 -- what is known and walked is entered
 pub known_entered :
     {file : List ℕ} {x : ℕ} {acts : ActionTables} {starts goals steps : List ℕ} {t : Study} → (e : Extent)
-    → Known file e.vars e.actions x acts starts goals t → WalksAll t e.vars steps (All e.total) → Entered file e acts starts steps t
+    → Known file e.vars e.actions x acts starts goals t → WalksAll t e.vars steps (Ok e.total) → Entered file e acts starts steps t
 known_entered e known (rowed, (list, (members, counted))) = record {
   lawful = known.lawful;
   variables = known.variables;

@@ -9,11 +9,9 @@ ghost use Rattle.keeping.specs.Seeds.{InRange};
 ghost use Rattle.sampling.specs.Once.{OrderedOnce, CountedOnce};
 ghost use Rattle.varying.specs.Entered.{EnteredIn};
 
-use answer::Answer;
-use keeping::{Extent, FirstSeed};
-use ordering::Found;
-use tracing::Walked;
-use wanting::Met;
+use answer::{Answer, Rule};
+use keeping::Extent;
+use std::ops::ControlFlow;
 
 // Up to so many actions a set of them is one word, and the plans are kept apart from the report.
 const FEW: usize = 64;
@@ -32,12 +30,11 @@ fn report_ordered(
         → Reports t e.first e.seeds report.old result report.new }
 {
     let taken = sampling::take_few_by(e.first, e, members, words, room);
-    let first = keeping::judge_first(taken, e, report);
-    match first {
-        FirstSeed::Settles(answer) => answer,
-        FirstSeed::Plans(length) => {
+    match keeping::judge_first(taken, e, report) {
+        ControlFlow::Break(answer) => answer,
+        ControlFlow::Continue(length) => {
             sampling::count_few(e, members, words, room, report);
-            heading::numbers(0, length)
+            Answer::done(length as u64, 0)
         }
     }
 }
@@ -60,12 +57,11 @@ fn report_counted(
         → Reports t e.first e.seeds report.old result report.new }
 {
     let taken = sampling::take_many_by(file, e.first, e, acts, vars, steps, wants, room);
-    let first = keeping::judge_first(taken, e, report);
-    match first {
-        FirstSeed::Settles(answer) => answer,
-        FirstSeed::Plans(length) => {
+    match keeping::judge_first(taken, e, report) {
+        ControlFlow::Break(answer) => answer,
+        ControlFlow::Continue(length) => {
             sampling::count_many(file, e, acts, vars, steps, wants, room, report);
-            heading::numbers(0, length)
+            Answer::done(length as u64, 0)
         }
     }
 }
@@ -88,8 +84,8 @@ fn report_few(
 {
     let mut words = [0u64; 64];
     let found = renaming::order_by_action(file, e.actions, acts, vars, setters, steps, &mut words);
-    let Found::Members(members) = found else {
-        return heading::all_refused(11, e.seeds, report);
+    let Ok(members) = found else {
+        return heading::all_refused(Rule::OffWalk, e.seeds, report);
     };
     report_ordered(e, members, &words, setters, report)
 }
@@ -112,8 +108,8 @@ fn report_many(
 {
     let mut wants = [0u16; 512];
     let met = wanting::want_all(file, e.actions, acts, steps, &mut wants);
-    let Met::All = met else {
-        return heading::all_refused(11, e.seeds, report);
+    let Ok(()) = met else {
+        return heading::all_refused(Rule::OffWalk, e.seeds, report);
     };
     report_counted(file, e, acts, vars, steps, &wants, setters, report)
 }
@@ -138,8 +134,8 @@ pub fn report_loaded(
 {
     let mut steps = [0u16; 512];
     let walked = tracing::walk_all(n, actions, acts, vars, setters, &mut steps);
-    let Walked::All(total) = walked else {
-        return heading::all_refused(10, seeds, report);
+    let Ok(total) = walked else {
+        return heading::all_refused(Rule::NoWalk, seeds, report);
     };
     let e = Extent {
         first,

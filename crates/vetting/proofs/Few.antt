@@ -4,20 +4,16 @@ use Prim.Native.Nat.{ℕ, zero, suc, ◌≤◌, ◌<◌}
 use native.Mathlib.Omega.{arith}
 use mathlib.Core.Path.{◌≡◌, refl, sym, ◌∙◌}
 use mathlib.Core.Logic.{◌↔◌}
-use mathlib.Core.Bool.{Bool, true, false, false≢true}
+use mathlib.Core.Bool.{false≢true}
 use mathlib.Core.List.{List}
 use lib.ListN.{length, get_or, take, replicate}
 use lib.Seq.{take-suc}
-use Rattle.bits.specs.Bits.{bit}
 use Rattle.plain.proofs.Lists.{all_zeros}
 use Rattle.bits.proofs.Words.{bit_zero}
-use Rattle.bits.proofs.Members.{not_both}
 use Rattle.ranks.specs.Ranks.{rising, Turned}
 use Rattle.ranks.proofs.Laws.{length-rising, get_d_rising, rising_is_rank_list}
 use Rattle.ranking.proofs.Fine.{rank_list_is_fine}
 use Rattle.study.specs.Study.{Study}
-use Rattle.orders.specs.Orders.{In}
-use Rattle.orders.proofs.Lists.{in_decided}
 use Rattle.walks.specs.Walks.{OnAWalk}
 use Rattle.walks.proofs.Leads.{on_walk_usable}
 use Rattle.tables.specs.Tables.{ActionTables}
@@ -26,8 +22,8 @@ use Rattle.hanging.specs.Hanging.{InWord}
 use Rattle.tying.specs.Tying.{InPlace, Low}
 use Rattle.stages.specs.Whole.{Known, Given}
 use Rattle.stages.proofs.Stages.{known_given}
-use Rattle.charts.specs.Faults.{Direct, NoneAmiss, missing, on_no_walk}
-use Rattle.comparing.specs.Comparing.{ListedIn, Untied, Wanted}
+use Rattle.charts.specs.Faults.{Direct}
+use Rattle.comparing.specs.Comparing.{Untied, Wanted}
 
 -- ---- each action's rank is its own number
 
@@ -89,20 +85,6 @@ module _
           (word_walks j).1 d.other,
           rw (own_rank i (walk_low i d.one), own_rank j (walk_low j d.other)) at (ordered.complete i j d.one d.other d.comes_before_lem),
         )
-
--- ---- where none is amiss, the list has the members
-
-pub none_amiss_listed :
-    {t : Study} (members : ℕ) (list : List ℕ) → ((i : ℕ) → InWord members i ↔ OnAWalk t i) → NoneAmiss t list → ListedIn list members
-none_amiss_listed {t} members list walks none i = (λ m. there ((walks i).0 m) (in_decided i list), λ h. back h (bit members i) refl)
-  where
-    there : OnAWalk t i → Dec (In i list) → In i list
-    there on (yes h) = h
-    there on (no n) = absurd (none i (missing on n))
-
-    back : In i list → (b : Bool) → bit members i ≡ b → InWord members i
-    back h true e = e
-    back h false e = absurd (none i (on_no_walk h (λ on. not_both ((walks i).1 on) e)))
 
 -- ---- ties made anew
 

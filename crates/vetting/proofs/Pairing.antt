@@ -1,21 +1,20 @@
 -- Pairs as links: chains of the one are chains of the other, and what is found in the links is an answer about the chart.
 -- Assumes nothing.
 use Prim.Native.Nat.{ℕ, ◌<◌}
-use native.Mathlib.Omega.{arith}
-use mathlib.Core.Path.{◌≡◌}
+use mathlib.Core.Path.{◌≡◌, sym}
+use mathlib.Core.Bool.{true≢false}
 use mathlib.Core.Logic.{◌↔◌}
 use mathlib.Core.List.{List}
 use lib.ListN.{length}
+use Rattle.std.specs.Prelude.{true, false, Option, Result, is_err}
 use Rattle.answer.specs.Answers.{refusal}
 use Rattle.study.specs.Study.{Study}
 use Rattle.orders.specs.Orders.{In, Chain, OnRing}
 use Rattle.orders.proofs.Chains.{chain-within}
 use Rattle.linking.specs.Linking.{Anyone, ClosesTo, chains, circle}
-use Rattle.linking.specs.declared.Closed.{Closed}
-use Rattle.linking.specs.declared.Closed.TheVariants.{Chains, Circle}
+use Rattle.linking.specs.declared.Circle.{Circle}
 use Rattle.listing.specs.Listing.{LinkedBy, LinksTo}
 use Rattle.lacking.specs.Lacking.{LacksOf, nothing, two}
-use Rattle.lacking.specs.declared.Lack.{Lack}
 use Rattle.charts.specs.Charts.{Pair, Chart}
 use Rattle.charts.specs.Faults.{NoneAstray, Chained, Direct}
 use Rattle.charts.specs.Answers.{Listed, WellPaired, Uncircled, Charts, astray, lacking, fine}
@@ -49,7 +48,7 @@ linked_astray c listed links h = astray listed (links.first h)
 
 -- the same that lacks, under another name
 pub lacks_same :
-    {such other linked : ℕ → ℕ → Type 0} {lack : Lack} → ((i j : ℕ) → such i j ↔ other i j) → LacksOf such linked lack → LacksOf other linked lack
+    {such other linked : ℕ → ℕ → Type 0} {lack : Option (ℕ × ℕ)} → ((i j : ℕ) → such i j ↔ other i j) → LacksOf such linked lack → LacksOf other linked lack
 lacks_same same (nothing given) = nothing (λ i j d. given i j ((same i j).1 d))
 lacks_same same (two {i = i} {j = j} is not-linked lower) = two ((same i j).0 is) not-linked (λ k l h d. lower k l h ((same k l).1 d))
 
@@ -60,8 +59,8 @@ module _
     pub all_paired : Listed t c → WellPaired t c
     all_paired listed = record { listed = listed; none_astray = links.none all }
 
-    pub ring_charts : {after : ℕ → ℕ → Type 0} {r : Closed} → ClosesTo linked after r → r ≡ Circle → Listed t c → Charts t c (refusal 27 0)
-    ring_charts (chains _ _) e listed = absurd (let z : ◌≡◌ {A = ℕ} 0 1 = cc in omega arith)
+    pub ring_charts : {after : ℕ → ℕ → Type 0} {r : Result (Unit {0}) Circle} → ClosesTo linked after r → is_err r ≡ true → Listed t c → Charts t c (refusal 27 0)
+    ring_charts (chains _ _) e listed = absurd (true≢false (sym e))
     ring_charts (circle r) e listed = in-circle (all_paired listed) (links_chained c.pairs (links.by_pairs all) r)
 
     module _ (listed : Listed t c) where
@@ -69,7 +68,7 @@ module _
       uncircled none = record { paired = all_paired listed; no_circle = λ x r. none x (chained_links c.pairs (links.by_pairs all) r) }
 
       lack_charts :
-          {after : ℕ → ℕ → Type 0} {lack : Lack} → ((x : ℕ) → OnRing Anyone linked x → ⊥)
+          {after : ℕ → ℕ → Type 0} {lack : Option (ℕ × ℕ)} → ((x : ℕ) → OnRing Anyone linked x → ⊥)
           → ((x y : ℕ) → after x y ↔ Chain Anyone linked x y)
           → LacksOf (Direct t) after lack → Charts t c (lack_told (length c.actions) (length c.pairs) lack)
       lack_charts none same (nothing given) =
@@ -82,7 +81,7 @@ module _
           })
 
       pub closed_charts :
-          {after : ℕ → ℕ → Type 0} {r : Closed} {lack : Lack} → ClosesTo linked after r → r ≡ Chains → LacksOf (Direct t) after lack
+          {after : ℕ → ℕ → Type 0} {r : Result (Unit {0}) Circle} {lack : Option (ℕ × ℕ)} → ClosesTo linked after r → is_err r ≡ false → LacksOf (Direct t) after lack
           → Charts t c (lack_told (length c.actions) (length c.pairs) lack)
       closed_charts (chains none same) e lacks = lack_charts none same lacks
-      closed_charts (circle _) e lacks = absurd (let z : ◌≡◌ {A = ℕ} 0 1 = cc in omega arith)
+      closed_charts (circle _) e lacks = absurd (true≢false e)

@@ -9,7 +9,7 @@ use lib.ListN.{length, take, drop}
 use lib.Seq.{take-append_seam}
 use Rattle.answer.specs.declared.Answer.{Answer}
 use Rattle.ranking.specs.Ranking.{tested}
-use Rattle.ranking.specs.declared.Tested.TheVariants.{Fine}
+use Rattle.std.specs.Prelude.{Ok}
 use Rattle.study.specs.Study.{Study}
 use Rattle.lawful.specs.Lawful.{Lawful}
 use Rattle.plans.specs.Plans.{StraightPlan}
@@ -26,7 +26,7 @@ barred_charts c (off walks l) = off_walk_lem walks l
 barred_charts c (on_ring walks met x n) = ring walks met x n
 
 module _
-    {t : Study} (lawful : Lawful t) {ranks : List ℕ} (fine : tested ranks (length t.actions) ≡ Fine) (before : List ℕ) (room : length before ≡ 256)
+    {t : Study} (lawful : Lawful t) {ranks : List ℕ} (fine : tested ranks (length t.actions) ≡ Ok tt) (before : List ℕ) (room : length before ≡ 256)
   where
     refused : {after : List ℕ} {r : Answer} → Way t ranks before r after → r.number ≢ 0 → Barred t r
     refused (at_fault f) away = absurd (rw fine at f)

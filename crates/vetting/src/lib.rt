@@ -1,8 +1,7 @@
 // Checks a chart of a study with at most 64 actions, whose tables are loaded: sets of actions are words.
 #![tactic(auto)]
 
-ghost use Rattle.std.specs.Prelude.{◌≡◌, ℕ, ◌≤◌, length, ◌↔◌};
-ghost use Rattle.answer.specs.Answers.{three};
+ghost use Rattle.std.specs.Prelude.{◌≡◌, ℕ, ◌≤◌, ◌<◌, length, ◌↔◌, true, OnOk, IfErr};
 ghost use Rattle.ranks.specs.Ranks.{rising};
 ghost use Rattle.study.specs.Study.{Study};
 ghost use Rattle.orders.specs.Orders.{Counted};
@@ -14,44 +13,34 @@ ghost use Rattle.charts.specs.Charts.{chart_of};
 ghost use Rattle.charts.specs.Faults.{Direct};
 ghost use Rattle.charts.specs.Answers.{Listed, Charts};
 ghost use Rattle.comparing.specs.Comparing.{ListedIn, Wanted};
+ghost use Rattle.tracing.specs.Facts.{TellsForce};
+ghost use Rattle.listing.specs.Listing.{HasJust};
 ghost use Rattle.vetting.specs.Told.{lack_told};
-ghost use Rattle.vetting.specs.Words.{InWords, AllZero, Readies};
+ghost use Rattle.vetting.specs.Words.{WalksTold, InWords, AllZero, Readies};
 
-use answer::Answer;
-use lacking::Lack;
-use linking::Closed;
-use ordering::Found;
-use tracing::Walked;
+use answer::{Answer, Rule};
+use comparing::Word;
+use listing::ActionSet;
 
-// The walk actions in words, and how many they are; or what is answered to every chart.
+// The walk actions as a word, and how many they are.
 #[derive(Clone, Copy)]
-pub enum Readied {
-    Words { members: u64, total: usize },
-    Refused(Answer),
+pub struct WalkActions {
+    pub members: u64,
+    pub total: usize,
 }
 
 // At most so many actions and pairs.
-pub const MOST_ACTIONS: usize = 256;
+const MOST_ACTIONS: usize = 256;
 
-pub const MOST_PAIRS: usize = 4096;
-
-pub fn numbers(number: u64, first: usize, second: usize) -> Answer
-    ensures { result ≡ three number first second }
-{
-    Answer {
-        number,
-        first: first as u64,
-        second: second as u64,
-    }
-}
+const MOST_PAIRS: usize = 4096;
 
 // The lowest direct order that no chain gives; or 0 with how many actions and pairs there are.
-pub fn told(lack: Lack, actions: usize, pairs: usize) -> Answer
+pub fn told(lack: Option<(u8, u8)>, actions: usize, pairs: usize) -> Answer
     ensures { result ≡ lack_told actions pairs lack }
 {
     match lack {
-        Lack::Nothing => numbers(0, actions, pairs),
-        Lack::Two { first, second } => numbers(28, tables::wide(first), tables::wide(second)),
+        None => Answer::done(actions as u64, pairs as u64),
+        Some((first, second)) => Rule::LacksOrder.answer(first as u64, second as u64),
     }
 }
 
@@ -72,16 +61,50 @@ fn vet_ties(
 {
     let mut ties = [0u64; 64];
     let many = listing::many_pairs(pairs.len());
-    let k = comparing::tie_all(pairs, members, &mut ties);
-    if k < many {
-        return numbers(26, k, 0);
+    if let Some(k) = comparing::tie_all(pairs, members, &mut ties) {
+        return Rule::WrongPair.refusal(k as u64);
     }
-    let closed = tying::close(members, total, &mut ties, room);
-    let Closed::Chains = closed else {
-        return numbers(27, 0, 0);
-    };
+    if tying::close(members, total, &mut ties, room).is_err() {
+        return Rule::Circle.refusal(0);
+    }
     let lack = comparing::lowest(members, words, &ties);
     told(lack, actions.len(), many)
+}
+
+// What is wrong with how many there are, or with the list: 19, 14, 25. Where there is a straight plan, a list that passes has just
+// the members, which are the walk actions.
+pub fn vet_list<S: ActionSet>(
+    count: usize,
+    acts: &[[u8; 6]; 256],
+    members: &S,
+    actions: &[u8],
+    pairs: &[u8],
+) -> Result<(), Answer>
+    requires room { count ≤ S.room }
+    requires few_members { (i : ℕ) → S.has members.now i ≡ true → i < 256 }
+    requires known { (t : Study) × (count ≡ length t.actions) × TellsForce count (out_column acts.now) t }
+    ensures refused { (t : Study)
+        → WalksTold t count (out_column acts.now) (S.has members.now)
+        → IfErr result (λ refusal. Charts t (chart_of actions.now pairs.now) refusal) }
+    ensures listed { (t : Study)
+        → WalksTold t count (out_column acts.now) (S.has members.now)
+        → OnOk result (Listed t (chart_of actions.now pairs.now)) }
+    ensures set_of { OnOk result (HasJust actions.now (S.has members.now)) }
+{
+    if MOST_ACTIONS < actions.len() {
+        return Err(Rule::WrongCount.refusal(actions.len() as u64));
+    }
+    let many = listing::many_pairs(pairs.len());
+    if MOST_PAIRS < many {
+        return Err(Rule::WrongCount.refusal(many as u64));
+    }
+    if let Some(k) = listing::first_unusable(actions, count, acts) {
+        return Err(Rule::NoAction.refusal(k as u64));
+    }
+    if let Some(low) = listing::lowest_amiss(actions, members) {
+        return Err(Rule::WrongList.refusal(low as u64));
+    }
+    Ok(())
 }
 
 // There is a straight plan: 19, 14, 25, and what comes after.
@@ -100,22 +123,10 @@ fn vet_words(
         → InWords t count total members (out_column acts.now) words.now
         → Charts t (chart_of actions.now pairs.now) result }
 {
-    if MOST_ACTIONS < actions.len() {
-        return numbers(19, actions.len(), 0);
+    match vet_list(count, acts, &Word(members), actions, pairs) {
+        Ok(()) => vet_ties(total, members, words, actions, pairs, room),
+        Err(refusal) => refusal,
     }
-    let many = listing::many_pairs(pairs.len());
-    if MOST_PAIRS < many {
-        return numbers(19, many, 0);
-    }
-    let k = listing::first_unusable(actions, count, acts);
-    if k < actions.len() {
-        return numbers(14, k, 0);
-    }
-    let low = comparing::lowest_amiss(actions, members);
-    if low < bits::NONE {
-        return numbers(25, low as usize, 0);
-    }
-    vet_ties(total, members, words, actions, pairs, room)
 }
 
 // Every variable has a walk: 11, 12, or in words. Each action's rank is its own number, and so is its name. The setters are
@@ -129,7 +140,7 @@ fn order_words(
     setters: &mut [u8; 512],
     steps: &[u16; 512],
     words: &mut [u64; 64],
-) -> Readied
+) -> Result<WalkActions, Answer>
     requires { (length words.old ≡ 64) × AllZero words.old × (count ≤ 64) × (length setters.old ≡ 512)
         × ((t : Study) × (n : ℕ) × WalkingIn file.now (rising count) n total acts.now vars.now setters.old steps.now t) }
     ensures setters_len { length setters.new ≡ 512 }
@@ -149,15 +160,16 @@ fn order_words(
         steps,
         words,
     );
-    let Found::Members(members) = found else {
-        return Readied::Refused(handing::unordered(found));
+    let members = match found {
+        Ok(members) => members,
+        Err(off) => return Err(handing::unmet(off)),
     };
     tying::number_all(setters);
     let taken = hanging::take_looking(members, total, words, setters);
     if taken < total {
-        return Readied::Refused(numbers(12, taken, 0));
+        return Err(Rule::Ring.refusal(taken as u64));
     }
-    Readied::Words { members, total }
+    Ok(WalkActions { members, total })
 }
 
 // What was loaded: 10, or the same. The steps are not needed after this, which keeps the ties out of their frame.
@@ -169,7 +181,7 @@ fn ready(
     vars: &[[u8; 3]; 32],
     setters: &mut [u8; 512],
     words: &mut [u64; 64],
-) -> Readied
+) -> Result<WalkActions, Answer>
     requires { (length words.old ≡ 64) × AllZero words.old × (count ≤ 64) × (length setters.old ≡ 512)
         × ((t : Study) × (x : ℕ) × KnownIn file.now n count x acts.now vars.now setters.old t) }
     ensures setters_len { length setters.new ≡ 512 }
@@ -179,8 +191,9 @@ fn ready(
 {
     let mut steps = [0u16; 512];
     let walked = tracing::walk_all(n, count, acts, vars, setters, &mut steps);
-    let Walked::All(total) = walked else {
-        return Readied::Refused(handing::unwalked(walked));
+    let total = match walked {
+        Ok(total) => total,
+        Err(fault) => return Err(handing::unwalked(Err(fault))),
     };
     order_words(file, count, total, acts, vars, setters, &steps, words)
 }
@@ -203,11 +216,10 @@ pub fn chart_few(
         → Charts t (chart_of actions.now pairs.now) result }
 {
     let mut words = [0u64; 64];
-    let readied = ready(file, n, count, acts, vars, setters, &mut words);
-    match readied {
-        Readied::Refused(answer) => answer,
-        Readied::Words { members, total } => {
+    match ready(file, n, count, acts, vars, setters, &mut words) {
+        Ok(WalkActions { members, total }) => {
             vet_words(count, total, acts, members, &words, actions, pairs, setters)
         }
+        Err(refusal) => refusal,
     }
 }

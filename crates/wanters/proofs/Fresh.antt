@@ -1,10 +1,10 @@
 -- Sets made anew: each has its four words, and nothing is in it.
 -- Assumes nothing.
-use Prim.Native.Nat.{ℕ, zero, suc, ◌/◌, ◌%◌, ◌<◌}
+use Prim.Native.Nat.{ℕ, zero, suc, ◌<◌}
 use native.Mathlib.Omega.{arith}
 use mathlib.Core.Path.{◌≡◌, refl}
 use mathlib.Core.Bool.{false}
-use mathlib.Core.List.{List, []}
+use mathlib.Core.List.{[]}
 use lib.ListN.{length, get_or, replicate}
 use Rattle.bits.specs.Bits.{within}
 use Rattle.bits.proofs.Members.{fresh_empty}

@@ -20,13 +20,10 @@ fn note(file: &[u8], i: u8, place: usize, many: u8, wanters: &mut [[u64; 4]; 512
         → q < 16
         → within (set_at wanters.new v q) x ≡ ((eqb i x && wants (conditions_of t i) v q) || within (set_at wanters.old v q) x) }
 {
-    let mut at = place;
-    let mut k = 0;
-    while k < many {
+    for k in 0..many {
+        let at = place + 3 * k as usize;
         let j = 16 * tables::wide(file[at + 1]) + tables::wide(file[at + 2]);
         bits::add(&mut wanters[j], i);
-        at += 3;
-        k += 1;
     }
 }
 
@@ -45,12 +42,10 @@ pub fn note_all(
         → AllEmpty wanters.old
         → Noted t actions (λ i. within some.now i) wanters.new }
 {
-    let mut i = 0;
-    while i < actions {
+    for i in 0..actions {
         if bits::contains(some, i as u8) {
             let act = tables::action_at(acts, i);
             note(file, i as u8, act.place, act.many, wanters);
         }
-        i += 1;
     }
 }

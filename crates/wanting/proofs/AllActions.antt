@@ -12,8 +12,7 @@ use Rattle.tracing.specs.Facts.{Wishes}
 use Rattle.tracing.specs.Steps.{Rowed}
 use Rattle.wanting.specs.Wanting.{StandAt, FirstOff, WantsEach, WantsAll}
 use Rattle.planning.specs.Planning.{LowestOff}
-use Rattle.wanting.specs.declared.Wanted.TheVariants as Wanted-as
-use Rattle.wanting.specs.declared.Met.TheVariants as Met-as
+use Rattle.std.specs.Prelude.{Ok}
 use Rattle.tracing.proofs.StepTable.{step_leaves, on_walk_step}
 use Rattle.wanting.proofs.Conditions.{wishes_stand}
 use Rattle.wanting.proofs.OnWalks.{steps_on_walks, first_off_lowest}
@@ -43,22 +42,10 @@ begins size zeros some = record {
 module _
     {file : List ℕ} {a : ℕ} {vars pres places manys steps table : List ℕ} {i : ℕ}
     (under : Underway file a vars pres places manys steps table i) (h : i < a) where
-  pub few_actions : a ≤ 256
-  few_actions = let (t, w) = under.some in omega (arith, w.actions, w.lawful.few_actions)
-
-  pub conditions_here : (t : Study) × (j : ℕ) × StandAt file (get_or places i 0) (get_or manys i 0) t j
-  conditions_here = let (t, w) = under.some in (t, i, wishes_stand w i h)
-
-  pub low_here : (j : ℕ) → get_or table j 0 ≤ 255 * 255
-  low_here j = omega (arith, under.low j, few_actions)
-
   -- the variable and pre of action i, as the tables have them
   module _ {x y : ℕ} (is_var : x ≡ get_or vars i 0) (is_pre : y ≡ get_or pres i 0) where
     told_here : {t : Study} → Wishes file a vars pres places manys t → Told t i x y
     told_here w = told w i h is_var is_pre
-
-    pub in_table_lem : 16 * x + y < 512
-    in_table_lem = let (t, w) = under.some in (told_here w).inside
 
     pub skips : get_or steps (16 * x + y) 0 ≢ i + 2 → Underway file a vars pres places manys steps table (i + 1)
     skips other = record {
@@ -80,7 +67,7 @@ module _
           → ((length table' ≡ 512) × ((j : ℕ) → get_or table' j 0 ≤ get_or table j 0 + 255))
           × ((t : Study) (j : ℕ)
           → StandAt file (get_or places i 0) (get_or manys i 0) t j
-          → WantsEach (conditions_of t j) steps table table' Wanted-as.All)
+          → WantsEach (conditions_of t j) steps table table' (Ok tt))
           → Underway file a vars pres places manys steps table' (i + 1)
       goes_on ((size, grown), each) = record {
         some = under.some;
@@ -105,5 +92,5 @@ module _
 pub ends :
     {file : List ℕ} {a : ℕ} {vars pres places manys steps table : List ℕ} {i : ℕ}
     → Underway file a vars pres places manys steps table i → a ≤ i
-    → (t : Study) → Wishes file a vars pres places manys t → Rowed t (length t.tasks) steps → WantsAll t table Met-as.All
+    → (t : Study) → Wishes file a vars pres places manys t → Rowed t (length t.tasks) steps → WantsAll t table (Ok tt)
 ends under h t w rowed = all_passed (under.so_far_lem t w rowed) (omega (arith, under.few, w.actions))

@@ -13,7 +13,7 @@ use Rattle.ranks.specs.Ranks.{one}
 use Rattle.study.specs.Study.{Condition, Study, condition_at}
 use Rattle.walks.specs.Walks.{conditions_of}
 use Rattle.wanting.specs.Wanting.{wants, StandAt, step_at, HaveSteps, FirstOff, Raised, WantsEach}
-use Rattle.wanting.specs.declared.Wanted.TheVariants.{All}
+use Rattle.std.specs.Prelude.{Ok}
 use Rattle.wanting.proofs.Counting.{wants_next_other, wants_next_own}
 use Rattle.wanting.proofs.Conditions.{Here, stands_here, conditions_rise}
 
@@ -67,12 +67,11 @@ raised_next cs k table table' h size rise low narrow before u q below slim = fro
     from (no d) _ = another (λ a b. d (sym a))
 
 -- where the pass stands; no entry grows past 255 * 255 + 255
-pub record Underway (file : List ℕ) (place many : ℕ) (steps table table' : List ℕ) (at k : ℕ) : Type 0 where
+pub record Underway (file : List ℕ) (place many : ℕ) (steps table table' : List ℕ) (k : ℕ) : Type 0 where
   pub some : (t : Study) × (i : ℕ) × StandAt file place many t i
   pub fits : (j : ℕ) → get_or table j 0 ≤ 255 * 255
   pub size : length table' ≡ 512
   pub few : k ≤ many
-  pub is_at : at ≡ place + 3 * k
   pub low : (j : ℕ) → get_or table' j 0 ≤ get_or table j 0 + k
   pub so_far_lem :
       (t : Study) (i : ℕ) → StandAt file place many t i
@@ -81,43 +80,41 @@ pub record Underway (file : List ℕ) (place many : ℕ) (steps table table' : L
 pub begins :
     {file : List ℕ} {place many : ℕ} {steps table : List ℕ}
     → length table ≡ 512 → ((j : ℕ) → get_or table j 0 ≤ 255 * 255) → (t : Study) × (i : ℕ) × StandAt file place many t i
-    → Underway file place many steps table table place 0
+    → Underway file place many steps table table 0
 unfolding wants
 begins size fits some = record {
   some = some;
   fits = fits;
   size = size;
   few = omega arith;
-  is_at = omega arith;
   low = λ j. omega arith;
   so_far_lem = λ t i s. (λ k h. absurd (omega arith), λ u q b c. omega arith);
 }
 
 module _
-    {file : List ℕ} {place many : ℕ} {steps table table' : List ℕ} {at k : ℕ}
-    (under : Underway file place many steps table table' at k) (h : k < many) where
+    {file : List ℕ} {place many : ℕ} {steps table table' : List ℕ} {k : ℕ}
+    (under : Underway file place many steps table table' k) (h : k < many) {at : ℕ} (is_at : at ≡ place + 3 * k) where
   -- a condition that fits the tables stands here
   pub here : (c : Condition) × Here file at c
-  here = let (t, i, stand) = under.some in (condition_at (conditions_of t i) k, stands_here stand at k under.is_at h)
+  here = let (t, i, stand) = under.some in (condition_at (conditions_of t i) k, stands_here stand at k is_at h)
 
   module _ {x y : ℕ} (is_var : x ≡ get_or file (at + 1) 0) (is-value : y ≡ get_or file (at + 2) 0) where
     -- its entry in the tables
     same_entry :
         (t : Study) (i : ℕ) → StandAt file place many t i
         → 16 * x + y ≡ 16 * (condition_at (conditions_of t i) k).var + (condition_at (conditions_of t i) k).value
-    same_entry t i stand = let w = stands_here stand at k under.is_at h in omega (arith, w.var, w.value)
+    same_entry t i stand = let w = stands_here stand at k is_at h in omega (arith, w.var, w.value)
 
-    pub goes_on : get_or steps (16 * x + y) 0 ≢ 0 → Underway file place many steps table (raised table' (16 * x + y)) (at + 3) (k + 1)
+    pub goes_on : get_or steps (16 * x + y) 0 ≢ 0 → Underway file place many steps table (raised table' (16 * x + y)) (k + 1)
     goes_on has-step = record {
       some = under.some;
       fits = under.fits;
       size = length-set table' _ _ ∙ under.size;
       few = omega arith;
-      is_at = omega (arith, under.is_at);
       low = λ j. omega (arith, under.low j, raised_at_most table' (16 * x + y) j);
       so_far_lem =
           λ t i stand.
-          let w = stands_here stand at k under.is_at h in
+          let w = stands_here stand at k is_at h in
           let b = under.so_far_lem t i stand in (
             below_more (λ m. step_at (conditions_of t i) steps m ≢ 0) k b.0 (rw (same_entry t i stand) at has-step),
             rw (same_entry t i stand) (raised_next (conditions_of t i) k table table' (omega (arith, stand.holds.count)) under.size
@@ -131,15 +128,15 @@ module _
     breaks_off no_step t i stand = record {
       at = k;
       there = omega (arith, stand.holds.count);
-      var = sym (stands_here stand at k under.is_at h).var;
+      var = sym (stands_here stand at k is_at h).var;
       off = rw (same_entry t i stand) at no_step;
       before = (under.so_far_lem t i stand).0;
     }
 
 pub ends :
-    {file : List ℕ} {place many : ℕ} {steps table table' : List ℕ} {at k : ℕ}
-    → Underway file place many steps table table' at k → many ≤ k
-    → (t : Study) (i : ℕ) → StandAt file place many t i → WantsEach (conditions_of t i) steps table table' All
+    {file : List ℕ} {place many : ℕ} {steps table table' : List ℕ} {k : ℕ}
+    → Underway file place many steps table table' k → many ≤ k
+    → (t : Study) (i : ℕ) → StandAt file place many t i → WantsEach (conditions_of t i) steps table table' (Ok tt)
 ends {k = k} under h t i stand =
     let e : k ≡ length (conditions_of t i) = omega (arith, under.few, stand.holds.count) in
     let b = under.so_far_lem t i stand in

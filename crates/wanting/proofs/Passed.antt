@@ -13,7 +13,7 @@ use Rattle.walks.specs.Walks.{OnAWalk, conditions_of}
 use Rattle.walks.proofs.Leads.{on_walk_usable}
 use Rattle.tracing.specs.Steps.{Members}
 use Rattle.wanting.specs.Wanting.{wanted, Counts, Raised, WantsAll}
-use Rattle.wanting.specs.declared.Met.TheVariants.{All}
+use Rattle.std.specs.Prelude.{Ok}
 use Rattle.wanting.proofs.Counting.{members_want_same}
 use Rattle.wanting.proofs.OnWalks.{WantsOnWalks}
 
@@ -60,7 +60,7 @@ module _ {t : Study} {table : List ℕ} {i : ℕ} (p : Passed t table i) where
     met = below_more (λ j. OnAWalk t j → WantsOnWalks t j) i p.met (λ _. wants-on);
   }
 
-  pub all_passed : i ≡ length t.actions → WantsAll t table All
+  pub all_passed : i ≡ length t.actions → WantsAll t table (Ok tt)
   all_passed e = (
     λ j on. p.met j (below on) on,
     λ list members u q low narrow. p.counts u q low narrow ∙ members_want_same t u q mine members,

@@ -1,6 +1,6 @@
 -- How many walk actions want each value, and the lowest that wants one off its walk.
 -- Assumes nothing.
-use Rattle.std.specs.Prelude.{ℕ, ◌+◌, ◌*◌, ◌<◌, ◌≡◌, ◌≢◌, Bool, false, ◌&&◌, ◌||◌, List, [], ◌∷◌, eqb, length, get_or}
+use Rattle.std.specs.Prelude.{ℕ, ◌+◌, ◌*◌, ◌<◌, ◌≡◌, ◌≢◌, Bool, false, ◌&&◌, ◌||◌, List, [], ◌∷◌, eqb, length, get_or, Result, Ok, Err}
 use Rattle.ranks.specs.Ranks.{one}
 use Rattle.study.specs.Study.{Condition, Study, condition_at}
 use Rattle.lawful.specs.Lawful.{Lawful}
@@ -8,10 +8,7 @@ use Rattle.tables.specs.Tables.{HoldsConditions}
 use Rattle.walks.specs.Walks.{Met, conditions_of}
 use Rattle.planning.specs.Planning.{LowestOff}
 use Rattle.tracing.specs.Steps.{Members}
-use Rattle.wanting.specs.declared.Wanted.{Wanted}
-use Rattle.wanting.specs.declared.Wanted.TheVariants as Wanted-as
-use Rattle.wanting.specs.declared.Met.{Met as Found}
-use Rattle.wanting.specs.declared.Met.TheVariants as Found-as
+use Rattle.wanting.specs.declared.Off.{Off}
 
 -- among the conditions is u = q
 unfoldable pub wants : List Condition → ℕ → ℕ → Bool
@@ -54,10 +51,10 @@ abbrev pub Raised : List Condition → List ℕ → List ℕ → Type 0
 Raised cs table table' =
     (u q : ℕ) → u < 32 → q < 16 → get_or table' (16 * u + q) 0 ≡ get_or table (16 * u + q) 0 + one (wants cs u q)
 
-abbrev pub WantsEach : List Condition → List ℕ → List ℕ → List ℕ → Wanted → Type 0
-WantsEach cs steps table table' Wanted-as.All = HaveSteps cs steps (length cs) × Raised cs table table'
-WantsEach cs steps table table' (Wanted-as.Off u) = FirstOff cs steps u
+abbrev pub WantsEach : List Condition → List ℕ → List ℕ → List ℕ → Result (Unit {0}) ℕ → Type 0
+WantsEach cs steps table table' (Ok tt) = HaveSteps cs steps (length cs) × Raised cs table table'
+WantsEach cs steps table table' (Err u) = FirstOff cs steps u
 
-abbrev pub WantsAll : Study → List ℕ → Found → Type 0
-WantsAll t table Found-as.All = Met t × ((list : List ℕ) → Members t list → Counts t list table)
-WantsAll t table (Found-as.Off i u) = LowestOff t i u
+abbrev pub WantsAll : Study → List ℕ → Result (Unit {0}) Off → Type 0
+WantsAll t table (Ok tt) = Met t × ((list : List ℕ) → Members t list → Counts t list table)
+WantsAll t table (Err o) = LowestOff t o.action o.var

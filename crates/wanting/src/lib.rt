@@ -8,22 +8,21 @@ ghost use Rattle.tracing.specs.Facts.{WishesIn};
 ghost use Rattle.tracing.specs.Steps.{Rowed};
 ghost use Rattle.wanting.specs.Wanting.{StandAt, WantsEach, WantsAll};
 
-// Every condition is on its variable's walk; or the first of an action's conditions that is not.
-#[derive(Clone, Copy)]
-pub enum Wanted {
-    All,
-    Off(u8),
+// The lowest walk action that has a condition off its variable's walk, with the variable of its first such condition.
+#[derive(Clone, Copy, Debug, PartialEq, Eq)]
+pub struct Off {
+    pub action: usize,
+    pub var: u8,
 }
 
-// The same over all walk actions; or the lowest that has a condition off its walk, with the condition's variable.
-#[derive(Clone, Copy)]
-pub enum Met {
-    All,
-    Off { action: usize, var: u8 },
-}
-
-// Passes the conditions of one action, and counts each value that they want.
-fn want(file: &[u8], place: usize, many: u8, steps: &[u16; 512], wants: &mut [u16; 512]) -> Wanted
+// Counts each value that the conditions of one action want. Refuses the first that is off its variable's walk, by the variable.
+fn want(
+    file: &[u8],
+    place: usize,
+    many: u8,
+    steps: &[u16; 512],
+    wants: &mut [u16; 512],
+) -> Result<(), u8>
     requires { (length wants.old ≡ 512) × ((j : ℕ) → get_or wants.old j 0 ≤ 255 * 255)
         × ((t : Study) × (i : ℕ) × StandAt file.now place many t i) }
     ensures wants_len { (length wants.new ≡ 512)
@@ -32,19 +31,16 @@ fn want(file: &[u8], place: usize, many: u8, steps: &[u16; 512], wants: &mut [u1
         → StandAt file.now place many t i
         → WantsEach (conditions_of t i) steps.now wants.old wants.new result }
 {
-    let mut at = place;
-    let mut k = 0;
-    while k < many {
+    for k in 0..many {
+        let at = place + 3 * usize::from(k);
         let u = file[at + 1];
-        let j = 16 * tables::wide(u) + tables::wide(file[at + 2]);
+        let j = 16 * usize::from(u) + usize::from(file[at + 2]);
         if steps[j] == 0 {
-            return Wanted::Off(u);
+            return Err(u);
         }
-        wants[j] = wants[j] + 1;
-        at += 3;
-        k += 1;
+        wants[j] += 1;
     }
-    Wanted::All
+    Ok(())
 }
 
 // Passes the actions that their step names: those on walks.
@@ -54,7 +50,7 @@ pub fn want_all(
     acts: &[[u8; 6]; 256],
     steps: &[u16; 512],
     wants: &mut [u16; 512],
-) -> Met
+) -> Result<(), Off>
     requires { (length wants.old ≡ 512) × ((j : ℕ) → get_or wants.old j 0 ≡ 0)
         × ((t : Study) × WishesIn file.now actions acts.now t) }
     ensures wants_len { length wants.new ≡ 512 }
@@ -63,17 +59,14 @@ pub fn want_all(
         → Rowed t (length t.tasks) steps.now
         → WantsAll t wants.new result }
 {
-    let mut i = 0;
-    while i < actions {
+    for i in 0..actions {
         let act = tables::action_at(acts, i);
-        let left = steps[16 * tables::wide(act.var) + tables::wide(act.pre)];
+        let left = steps[16 * usize::from(act.var) + usize::from(act.pre)];
         if left == (i + 2) as u16 {
-            let wanted = want(file, act.place, act.many, steps, wants);
-            if let Wanted::Off(var) = wanted {
-                return Met::Off { action: i, var };
+            if let Err(var) = want(file, act.place, act.many, steps, wants) {
+                return Err(Off { action: i, var });
             }
         }
-        i += 1;
     }
-    Met::All
+    Ok(())
 }

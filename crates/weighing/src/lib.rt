@@ -9,9 +9,7 @@ ghost use Rattle.charts.specs.Answers.{Plannable, Listed, Charts};
 ghost use Rattle.listing.specs.Listing.{SetOf, SetOfWalks};
 ghost use Rattle.lacking.specs.Lacking.{Lacks};
 
-use answer::Answer;
-use lacking::Lack;
-use linking::Closed;
+use answer::{Answer, Rule};
 
 // There is a straight plan: the lowest direct order that the closed rows lack. The walks are entered only here, so that the
 // steps take the place that closing has left.
@@ -23,7 +21,7 @@ fn weigh_orders(
     vars: &[[u8; 3]; 32],
     setters: &[u8; 512],
     rows: &[[u64; 4]; 256],
-) -> Lack
+) -> Option<(u8, u8)>
     requires { (t : Study) × (x : ℕ) × KnownIn file.now n count x acts.now vars.now setters.now t × Plannable t }
     ensures { (t : Study) (x : ℕ)
         → KnownIn file.now n count x acts.now vars.now setters.now t
@@ -31,7 +29,7 @@ fn weigh_orders(
         → Lacks t rows.now result }
 {
     let mut steps = [0u16; 512];
-    tracing::walk_all(n, count, acts, vars, setters, &mut steps);
+    let _ = tracing::walk_all(n, count, acts, vars, setters, &mut steps);
     lacking::lowest(file, count, acts, vars, setters, &steps, rows)
 }
 
@@ -56,14 +54,12 @@ fn vet_pairs(
 {
     let mut rows = [[0u64; 4]; 256];
     let many = listing::many_pairs(pairs.len());
-    let k = listing::link_all(pairs, listed, &mut rows);
-    if k < many {
-        return vetting::numbers(26, k, 0);
+    if let Some(k) = listing::link_all(pairs, listed, &mut rows) {
+        return Rule::WrongPair.refusal(k as u64);
     }
-    let closed = linking::close(listed, &mut rows);
-    let Closed::Chains = closed else {
-        return vetting::numbers(27, 0, 0);
-    };
+    if linking::close(listed, &mut rows).is_err() {
+        return Rule::Circle.refusal(0);
+    }
     let lack = weigh_orders(file, n, count, acts, vars, setters, &rows);
     vetting::told(lack, actions.len(), many)
 }
@@ -88,20 +84,8 @@ pub fn vet(
         → SetOfWalks t members.now
         → Charts t (chart_of actions.now pairs.now) result }
 {
-    if vetting::MOST_ACTIONS < actions.len() {
-        return vetting::numbers(19, actions.len(), 0);
+    match vetting::vet_list(count, acts, members, actions, pairs) {
+        Ok(()) => vet_pairs(file, n, count, acts, vars, setters, members, actions, pairs),
+        Err(refusal) => refusal,
     }
-    let many = listing::many_pairs(pairs.len());
-    if vetting::MOST_PAIRS < many {
-        return vetting::numbers(19, many, 0);
-    }
-    let k = listing::first_unusable(actions, count, acts);
-    if k < actions.len() {
-        return vetting::numbers(14, k, 0);
-    }
-    let low = listing::lowest_amiss(actions, members);
-    if low < bits::NONE {
-        return vetting::numbers(25, low as usize, 0);
-    }
-    vet_pairs(file, n, count, acts, vars, setters, members, actions, pairs)
 }

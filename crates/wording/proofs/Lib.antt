@@ -1,3 +1,2 @@
-pub mod Numbers
-pub mod Samples
 pub mod Told
+pub mod Samples

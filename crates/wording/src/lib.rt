@@ -1,76 +1,96 @@
 // The lines of facts: a word or two, and the numbers that the fact names.
 #![tactic(auto)]
 
-ghost use Rattle.std.specs.Prelude.{◌≡◌, List, ◌+◌, ◌*◌, ◌≤◌, length, take};
-ghost use Rattle.telling.specs.Text.{Appends};
-ghost use Rattle.explained.specs.Facts.{Fact, row_of, rows_of, kind_of, word_of, numbers_of, fact_line, fact_lines};
+ghost use Rattle.std.specs.Prelude.{◌≡◌, List, ◌++◌, ◌+◌, ◌*◌, ◌≤◌, length};
+ghost use Rattle.telling.specs.Text.{Appends, line_end};
+ghost use Rattle.explained.specs.Facts.{Fact as Facts·Fact, Rule as Facts·Rule, rule_row, rule_word, row_of, rows_of, all_spaced, fact_line, fact_lines};
 
-// 12 bytes at most.
-fn word(kind: u8, out: &mut [u8], at: usize) -> usize
-    requires { at + 12 ≤ length out.old }
-    ensures upper_bound { (result ≤ at + 12) × (length out.new ≡ length out.old) }
-    ensures appends { (f : Fact) → kind_of f ≡ kind → Appends out.old at (word_of f) out.new result }
+use facts::{Fact, Rule};
+
+fn word(rule: Rule) -> &'static [u8]
+    ensures upper_bound { length result.now ≤ 6 }
+    ensures value { (r : Facts·Rule) → rule ≡ rule_row r → result.now ≡ rule_word r }
 {
-    match kind {
-        0 => telling::text::put(out, at, b"goal"),
-        1 => telling::text::put(out, at, b"set"),
-        2 => telling::text::put(out, at, b"unset"),
-        3 => telling::text::put(out, at, b"round"),
-        4 => telling::text::put(out, at, b"wants"),
-        5 => telling::text::put(out, at, b"start"),
-        6 => telling::text::put(out, at, b"walk"),
-        7 => telling::text::put(out, at, b"ring next"),
-        8 => telling::text::put(out, at, b"ring sets"),
-        9 => telling::text::put(out, at, b"ring leaves"),
-        10 => telling::text::put(out, at, b"after next"),
-        11 => telling::text::put(out, at, b"after sets"),
-        _ => telling::text::put(out, at, b"after leaves"),
+    match rule {
+        Rule::Next => b"next",
+        Rule::Sets => b"sets",
+        Rule::Leaves => b"leaves",
     }
 }
 
-// How many numbers a fact of this kind names.
-fn many(kind: u8) -> usize
-    ensures upper_bound { result ≤ 4 }
-    ensures value { (f : Fact) → kind_of f ≡ kind → result ≡ length (numbers_of f) }
+// Words, numbers of three digits at most with a space before each, and the line's end.
+fn tell(out: &mut [u8], at: usize, words: &[u8], numbers: &[u8]) -> usize
+    requires { at + length words.now + 4 * length numbers.now + 1 ≤ length out.old }
+    ensures upper_bound { (result ≤ at + length words.now + 4 * length numbers.now + 1) × (length out.new ≡ length out.old) }
+    ensures appends { Appends out.old at (words.now ++ (all_spaced numbers.now ++ line_end)) out.new result }
 {
-    match kind {
-        0 => 2,
-        2 => 2,
-        3 => 2,
-        4 => 3,
-        5 => 2,
-        _ => 4,
-    }
-}
-
-// One line, 29 bytes at most: the words, four numbers of three digits with a space before each, and the line's end.
-fn line(row: [u8; 5], out: &mut [u8], at: usize) -> usize
-    requires { at + 29 ≤ length out.old }
-    ensures upper_bound { (result ≤ at + 29) × (length out.new ≡ length out.old) }
-    ensures appends { (f : Fact) → row ≡ row_of f → Appends out.old at (fact_line f) out.new result }
-{
-    let kind = row[0];
-    let n = many(kind);
-    let mut next = word(kind, out, at);
-    let mut k = 0;
-    while k < n {
-        next = telling::short(out, next, tables::wide(row[k + 1]));
-        k += 1;
+    let mut next = telling::text::put(out, at, words);
+    for number in numbers {
+        next = telling::short(out, next, usize::from(*number));
     }
     telling::text::put(out, next, b"\n")
 }
 
-// The lines of n facts, from a place on.
-pub fn lines(facts: &[[u8; 5]; 288], n: usize, out: &mut [u8], begin: usize) -> usize
-    requires { (n ≤ 288) × (length facts.now ≡ 288) × (begin + 29 * n ≤ length out.old) }
-    ensures upper_bound { (result ≤ begin + 29 * n) × (length out.new ≡ length out.old) }
-    ensures appends { (list : List Fact) → take n facts.now ≡ rows_of list → Appends out.old begin (fact_lines list) out.new result }
+// One line, 29 bytes at most.
+fn line(fact: Fact, out: &mut [u8], at: usize) -> usize
+    requires { at + 29 ≤ length out.old }
+    ensures upper_bound { (result ≤ at + 29) × (length out.new ≡ length out.old) }
+    ensures appends { (f : Facts·Fact) → fact ≡ row_of f → Appends out.old at (fact_line f) out.new result }
+{
+    match fact {
+        Fact::Goal { variable, value } => tell(out, at, b"goal", &[variable, value]),
+        Fact::Set {
+            variable,
+            value,
+            action,
+            before,
+        } => tell(out, at, b"set", &[variable, value, action, before]),
+        Fact::Unset { variable, value } => tell(out, at, b"unset", &[variable, value]),
+        Fact::Round { variable, value } => tell(out, at, b"round", &[variable, value]),
+        Fact::Wants {
+            action,
+            variable,
+            value,
+        } => tell(out, at, b"wants", &[action, variable, value]),
+        Fact::Start { variable, value } => tell(out, at, b"start", &[variable, value]),
+        Fact::Walk {
+            variable,
+            action,
+            from,
+            to,
+        } => tell(out, at, b"walk", &[variable, action, from, to]),
+        Fact::Ring {
+            rule,
+            action,
+            next,
+            variable,
+            value,
+        } => {
+            let begun = telling::text::put(out, at, b"ring ");
+            tell(out, begun, word(rule), &[action, next, variable, value])
+        }
+        Fact::After {
+            rule,
+            step,
+            action,
+            variable,
+            value,
+        } => {
+            let begun = telling::text::put(out, at, b"after ");
+            tell(out, begun, word(rule), &[step, action, variable, value])
+        }
+    }
+}
+
+// The lines of facts, from a place on.
+pub fn lines(facts: &[Fact], out: &mut [u8], begin: usize) -> usize
+    requires { begin + 29 * length facts.now ≤ length out.old }
+    ensures upper_bound { (result ≤ begin + 29 * length facts.now) × (length out.new ≡ length out.old) }
+    ensures appends { (list : List Facts·Fact) → facts.now ≡ rows_of list → Appends out.old begin (fact_lines list) out.new result }
 {
     let mut at = begin;
-    let mut k = 0;
-    while k < n {
-        at = line(facts[k], out, at);
-        k += 1;
+    for fact in facts {
+        at = line(*fact, out, at);
     }
     at
 }

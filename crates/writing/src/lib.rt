@@ -15,10 +15,8 @@ fn put_variables(variables: &[u8], begin: usize, file: &mut [u8]) -> usize
     ensures { Put (spelled (map variable variables.now)) begin file.old file.new result }
 {
     let mut at = begin;
-    let mut i = 0;
-    while i < variables.len() {
-        at = putting::put_two(1, variables[i], at, file);
-        i += 1;
+    for variable in variables {
+        at = putting::put([1, *variable], at, file);
     }
     at
 }
@@ -29,10 +27,9 @@ fn put_tasks(tasks: &[u8], begin: usize, file: &mut [u8]) -> usize
     ensures { Put (spelled (map task_record (errands_in tasks.now))) begin file.old file.new result }
 {
     let mut at = begin;
-    let mut i = 0;
-    while i < tasks.len() {
-        at = putting::put_four(4, tasks[i], tasks[i + 1], tasks[i + 2], at, file);
-        i += 3;
+    let (entries, _) = tasks.as_chunks::<3>();
+    for [var, start, goal] in entries {
+        at = putting::put([4, *var, *start, *goal], at, file);
     }
     at
 }
@@ -55,23 +52,14 @@ fn put_crews(crews: &[u8], tasks: &[u8], begin: usize, file: &mut [u8]) -> usize
         file.old file.new result }
 {
     let mut at = begin;
-    let mut i = 0;
     let mut used = 0;
-    while i < crews.len() {
-        let next = used + 3 * tables::wide(crews[i]);
+    let (entries, _) = crews.as_chunks::<5>();
+    for (k, [many, a, b, c, d]) in entries.iter().enumerate() {
+        let next = used + 3 * usize::from(*many);
         at = put_tasks(&tasks[used..next], at, file);
-        let behind = kind_behind(i + 5, crews.len());
-        at = putting::put_seed(
-            crews[i + 1],
-            crews[i + 2],
-            crews[i + 3],
-            crews[i + 4],
-            behind,
-            at,
-            file,
-        );
+        let behind = kind_behind(k + 1, entries.len());
+        at = putting::put_seed(*a, *b, *c, *d, behind, at, file);
         used = next;
-        i += 5;
     }
     at
 }

@@ -4,14 +4,10 @@ use mathlib.Core.Path.{refl}
 use Rattle.tables.proofs.Fresh.{fresh_sized}
 use Rattle.checker.proofs.check.Goals as goal
 
-pub returns-in-Roster : goal.returns-in-Roster
-returns-in-Roster c =
-    let l = rw c.in-Roster.is at
-    (c.load-read.ensures fresh_sized refl) in
-    rw (l.1, l.2.actions.count, l.2.counts.count)
+pub returns-in-Ok : goal.returns-in-Ok
+returns-in-Ok c =
+    let (r, said, held) = rw c.in-Ok.is at (c.load.ensures fresh_sized refl) in
+    rw (c.done.ensures, said, held.actions.count, held.counts.count)
 
-pub returns-in-Refused : goal.returns-in-Refused
-returns-in-Refused c =
-    let l = rw c.in-Refused.is at
-    (c.load-read.ensures fresh_sized refl) in
-    rw l
+pub returns-in-Err : goal.returns-in-Err
+returns-in-Err c = rw (c.from.ensures, rw c.in-Err.is at (c.load.ensures fresh_sized refl))

@@ -2,7 +2,7 @@
 -- Assumes nothing.
 use native.Mathlib.Omega.{arith}
 use lib.ListN.{length-set}
-use Prim.Native.Nat.{ℕ, ◌-◌, ◌<◌}
+use Prim.Native.Nat.{◌-◌}
 use Rattle.ringing.proofs.Befores.{stuck_there, stuck_small}
 use Rattle.ringing.proofs.Rows.{opened_row}
 use Rattle.circling.proofs.Paths.{closes_here, room_left, goes_on, next_after, closes_later}

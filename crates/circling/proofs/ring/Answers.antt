@@ -10,6 +10,7 @@ use Rattle.explained.specs.Rings.{Stuck}
 use Rattle.ringing.specs.Stranded.{Stranded, Rowed}
 use Rattle.ringing.specs.Path.{Closed, circle_facts}
 use Rattle.ringing.proofs.Befores.{stuck_small, least_left_is_lowest}
+use Rattle.circling.proofs.Lowest.{some_below}
 use Rattle.circling.proofs.Paths.{none_on_path}
 use Rattle.ringing.proofs.Circles.{closed_are_actions, circle_told}
 use Rattle.circling.proofs.ring.Goals as goal
@@ -19,10 +20,16 @@ use Rattle.circling.proofs.ring.Goals.{After-wait-c}
 zeros : (i : ℕ) → i < 256 → ◌≡◌ {A = ℕ} (get_or (replicate 256 0) i 0) 0
 zeros i h = get_or-replicate 256 i 0 0 h
 
+pub unwrap-first-requires : goal.unwrap-first-requires
+unwrap-first-requires c =
+    let (long, (t, i, stranded, rowed, stuck)) = c.requires in
+    let (first, lowest) = least_left_is_lowest stranded stuck c.least.ensures in
+    some_below c.least.result (stuck_small stranded.lawful first)
+
 pub wait-c-requires : goal.wait-c-requires
 wait-c-requires c =
     let (long, (t, i, stranded, rowed, stuck)) = c.requires in
-    let (first, lowest) = least_left_is_lowest stranded stuck c.least-first.ensures in (
+    let (first, lowest) = least_left_is_lowest stranded stuck (rw c.unwrap-first.ensures at c.least.ensures) in (
       refl {a = 256},
       refl {a = 256},
       (t, stranded, rowed, none_on_path zeros, first, zeros _ (stuck_small stranded.lawful first), λ m e. absurd (omega arith)),
@@ -33,12 +40,12 @@ module _
     (w : After-wait-c) (t : Study) (i : ℕ)
     (stranded : Stranded w.args.file.now (start_column w.args.vars.now) w.args.setters.now w.args.wanters.now w.args.left.now t)
     (rowed : Rowed w.args.file.now w.args.acts.now t) (stuck : Stuck t i) where
-  lowest : Stuck t w.least-first.result × ((k : ℕ) → k < w.least-first.result → Stuck t k → ⊥)
-  lowest = least_left_is_lowest stranded stuck w.least-first.ensures
+  lowest : Stuck t w.unwrap-first.result × ((k : ℕ) → k < w.unwrap-first.result → Stuck t k → ⊥)
+  lowest = least_left_is_lowest stranded stuck (rw w.unwrap-first.ensures at w.least.ensures)
 
   closed :
       Closed t (replicate 256 0) w.wait-c.new.path 0 w.wait-c.result × (0 < w.wait-c.result.to)
-      × (get_or w.wait-c.new.path 0 0 ≡ w.least-first.result)
+      × (get_or w.wait-c.new.path 0 0 ≡ w.unwrap-first.result)
   closed =
       w.wait-c.ensures.closed t stranded rowed (none_on_path zeros) lowest.0 (zeros _ (stuck_small stranded.lawful lowest.0))
       (λ m e. absurd (omega arith))

@@ -15,8 +15,8 @@ pub returns-then-p-ne5 : goal.returns-then-p-ne5
 unfolding may_follow_lem
 returns-then-p-ne5 c = λ l counts h repeated. out_of_turn end h (ne_eqb c.args.p.last 5 c.if-p-ne5.true)
 
-pub returns-then-repeat-ne0 : goal.returns-then-repeat-ne0
-returns-then-repeat-ne0 c = λ l counts h repeated. repeats_there l h c.if-p-ne5.false repeated c.if-repeat-ne0.true
+pub returns-in-Some : goal.returns-in-Some
+returns-in-Some c = λ l counts h repeated. repeats_there l h c.if-p-ne5.false c.in-Some.place (rw c.in-Some.is at repeated)
 
 -- the number that is compared is the lowest bit that is clear
 lowest : (c : After-wide-unused) → LowestClear 64 c.args.p.used c.wide-unused.result
@@ -25,9 +25,9 @@ lowest c = subst (LowestClear 64 _) (sym c.wide-unused.ensures.0) c.lowest_clear
 pub returns-then-unused-p : goal.returns-then-unused-p
 returns-then-unused-p c =
     λ l counts h repeated.
-    unused_there l h c.if-p-ne5.false repeated (omega (arith, c.if-repeat-ne0.false)) (unused_is h.knows (lowest (goal.at.returns-then-unused-p c).After-wide-unused) c.if-unused-p.true)
+    unused_there l h c.if-p-ne5.false (rw c.in_default.is at repeated) (unused_is h.knows (lowest (goal.at.returns-then-unused-p c).After-wide-unused) c.if-unused-p.true)
 
 pub returns : goal.returns
 returns c =
     λ l counts h repeated.
-    loads l h c.if-p-ne5.false repeated (omega (arith, c.if-repeat-ne0.false)) (none_is_unused h.knows (lowest (goal.at.returns c).After-wide-unused) (omega (arith, c.if-unused-p.false)))
+    loads l h c.if-p-ne5.false (rw c.in_default.is at repeated) (none_is_unused h.knows (lowest (goal.at.returns c).After-wide-unused) (omega (arith, c.if-unused-p.false)))

@@ -6,20 +6,17 @@ use Rattle.bits.specs.Bits.{LowestClear}
 use Rattle.standing.proofs.Unused.{unused_is, none_is_unused}
 use Rattle.ending.proofs.Ends.{ends_with_7, ends_with_21, ends_with_8, ends_well}
 use Rattle.ending.proofs.on_end.Goals as goal
-use Rattle.ending.proofs.on_end.Goals.{After-wide-unused, Else-repeat-p}
+use Rattle.ending.proofs.on_end.Goals.{After-wide-unused}
 
-pub returns-then-repeat-p : goal.returns-then-repeat-p
-returns-then-repeat-p c =
-    let less = c.if-repeat-p.true in
+pub returns-in-Some : goal.returns-in-Some
+returns-in-Some c =
+    let less = c.in-Some.ensures.upper_bound in
     record {
       by_index = λ file counts at. tt;
       meets = λ file counts starts goals begins d e s.
-          ends_with_7 s (c.fill-repeat.ensures.by_index file _ _ s.actions s.sized.setters) _ less
+          ends_with_7 s (c.fill.ensures.by_index file _ _ s.actions s.sized.setters) _ c.in-Some.is less
           (c.record_place.ensures (omega (arith, c.action_at-act.ensures.place, s.places _ less)) ∙ c.action_at-act.ensures.place);
     }
-
-all_named : (c : Else-repeat-p) → c.fill-repeat.result ≡ c.args.p.actions
-all_named c = omega (arith, c.if-repeat-p.false, c.fill-repeat.ensures.upper_bound)
 
 -- the number that is compared is the lowest bit that is clear
 lowest : (c : After-wide-unused) → LowestClear 64 c.args.p.used c.wide-unused.result
@@ -30,7 +27,7 @@ returns-then-unused-p c =
     record {
       by_index = λ file counts at. tt;
       meets = λ file counts starts goals begins d e s.
-          ends_with_21 s (c.fill-repeat.ensures.by_index file _ _ s.actions s.sized.setters) _ (all_named (goal.at.returns-then-unused-p c).Else-repeat-p)
+          ends_with_21 s (c.fill.ensures.by_index file _ _ s.actions s.sized.setters) _ c.in_default.is
           (unused_is s.knows (lowest (goal.at.returns-then-unused-p c).After-wide-unused) c.if-unused-p.true);
     }
 
@@ -39,7 +36,7 @@ returns-then-next-len c =
     record {
       by_index = λ file counts at. tt;
       meets = λ file counts starts goals begins d e s.
-          ends_with_8 s (c.fill-repeat.ensures.by_index file _ _ s.actions s.sized.setters) _ (all_named (goal.at.returns-then-next-len c).Else-repeat-p)
+          ends_with_8 s (c.fill.ensures.by_index file _ _ s.actions s.sized.setters) _ c.in_default.is
           (none_is_unused s.knows (lowest (goal.at.returns-then-next-len c).After-wide-unused) (omega (arith, c.if-unused-p.false)))
           (omega (arith, e, c.if-next-len.true));
     }
@@ -49,7 +46,7 @@ returns c =
     record {
       by_index = λ file counts at. tt;
       meets = λ file counts starts goals begins d e s.
-          ends_well s (c.fill-repeat.ensures.by_index file _ _ s.actions s.sized.setters) _ (all_named (goal.at.returns c).Else-repeat-p)
+          ends_well s (c.fill.ensures.by_index file _ _ s.actions s.sized.setters) _ c.in_default.is
           (none_is_unused s.knows (lowest (goal.at.returns c).After-wide-unused) (omega (arith, c.if-unused-p.false)))
           (omega (arith, e, c.if-next-len.false));
     }

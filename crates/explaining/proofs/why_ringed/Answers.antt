@@ -32,7 +32,7 @@ returns-in_default c =
 pub left_over-requires : goal.left_over-requires
 left_over-requires c =
     let (t, x, i, known, walks, met, stuck) = c.requires.1 in
-    let walked = rw c.in-All.is at (known_walked known (c.walk_all-walked.ensures.walks_all t)) in
+    let walked = rw c.in-Ok.is at (known_walked known (c.walk_all-walked.ensures.walks_all t)) in
     (refl, (t, known_untaken _ _ _ known walks met _ walked))
 
 pub note_all-requires : goal.note_all-requires
@@ -48,7 +48,7 @@ stranded :
     → Stranded a.file.now (start_column a.vars.now) a.setters.now n.note_all.new.wanters
     n.left_over.new.left t
 stranded n x t known walks met =
-    let walked = rw n.in-All.is at (known_walked known (n.walk_all-walked.ensures.walks_all t)) in
+    let walked = rw n.in-Ok.is at (known_walked known (n.walk_all-walked.ensures.walks_all t)) in
     known_stranded _ _ _ known walks met (n.note_all.ensures.noted t (known_wishes _ _ _ known) fresh_all_empty)
     (n.left_over.ensures.has_just t (known_untaken _ _ _ known walks met _ walked) (fresh_empty 4))
 

@@ -1,11 +1,8 @@
 -- What holds at each turn of `finding::wanted_value`.
 -- Assumes nothing.
-use Prim.Native.Nat.{◌-◌}
+use Prim.Native.Nat.{◌+◌, ◌*◌}
 use Rattle.finding.proofs.Seeking.{Seeking}
 use Rattle.finding.proofs.wanted_value.Given as goal
 
 abbrev pub invariant-loop-k : goal.invariant-loop-k
-invariant-loop-k l = Seeking l.file l.place l.many l.u l.at l.k
-
-abbrev pub decreases-loop-k : goal.decreases-loop-k
-decreases-loop-k l = l.many - l.k
+invariant-loop-k l = Seeking l.file l.place l.many l.u (l.place + 3 * l.k) l.k

@@ -1,51 +1,34 @@
 -- `following::follow` meets its contract. The loop's invariant: what is left of the log, from here, gives what all of it gives from the start.
 -- Assumes nothing.
-use Rattle.std.proofs.Common.{◌-◌, refl, ap, subst, arith}
-use Rattle.occupant.specs.declared.Occupant.{Occupant}
-use Rattle.following.specs.declared.looking.Seen.TheVariants.{Event}
-use Rattle.following.specs.Following.{Sound, Looks}
-use Rattle.following.proofs.Halfway.{held_most, begins, refuses, goes_on, ends}
+use Rattle.std.proofs.Common.{arith}
+use Rattle.std.proofs.lemmas.Result.{err_from_is_err_and}
+use Rattle.following.proofs.Halfway.{begins, refuses}
+use Rattle.following.proofs.Turns.{turned, followed}
 use Rattle.following.proofs.follow.Goals as goal
-use Rattle.following.proofs.follow.Goals.{In-Event}
+use Rattle.following.proofs.follow.Goals.{else-loop-at-test, then-loop-at-test+in_ok-event+else-at-end-at-gt4}
 
 pub loop-at-init : goal.loop-at-init
-loop-at-init c = (omega arith, omega arith, omega arith, λ t ready long starts. begins t _ long starts)
+loop-at-init c =
+    record { early = omega arith; inside = omega arith; sum = omega arith; few = omega arith; halfway = λ t ready long starts. begins t _ long starts }
 
--- an event was seen
-module _ (c : In-Event) where
-  sound : Sound c.args.log.now c.loop-at.at c.args.actions (Event c.in-Event.action c.in-Event.tick c.in-Event.step)
-  sound = rw c.in-Event.is at c.look-seen.ensures.sound
-
-pub returns-in_default : goal.returns-in_default
-returns-in_default c =
-    let e = c.in_default.is in
-    λ t ready long starts.
-    let h = c.loop-at.invariant.3 t ready long starts in
-    rw (c.stopped.ensures, e) (refuses h _ (rw e at (c.look-seen.ensures.by_index _ t h.progress ready h.place h.last_is)))
-
-pub take-stance-requires : goal.take-stance-requires
-take-stance-requires c = (_, _, c.requires.1, (sound (goal.at.take-stance-requires c).In-Event).2)
-
-pub moved_on-one-requires : goal.moved_on-one-requires
-moved_on-one-requires c = omega (arith, c.loop-at.invariant.1, (sound (goal.at.moved_on-one-requires c).In-Event).1, (sound (goal.at.moved_on-one-requires c).In-Event).3)
-
-pub overflow_add-held : goal.overflow_add-held
-overflow_add-held c =
-    omega (arith, c.loop-at.invariant.0, c.loop-at.invariant.2, c.held_by-held.ensures, held_most c.take-stance.result)
+pub returns-in_err-event : goal.returns-in_err-event
+returns-in_err-event c t ready long starts =
+    let h = c.loop-at.invariant.halfway t ready long starts in
+    let p = err_from_is_err_and c.from_residual.result c.from_residual.ensures.1 in
+    rw (p.1, p.2) (refuses h _ (rw c.in_err-event.was at (c.look.ensures.by_index _ t h.progress ready h.place h.last_is)))
 
 pub loop-at-preserved : goal.loop-at-preserved
 loop-at-preserved c =
-    let w = held_most c.take-stance.result in (
-      omega (arith, (sound (goal.at.loop-at-preserved c).In-Event).1),
-      omega (arith, c.loop-at.invariant.1, (sound (goal.at.loop-at-preserved c).In-Event).3, ap (λ (one : Occupant). one.sum) c.moved_on-one.ensures),
-      omega (arith, c.loop-at.invariant.2, c.held_by-held.ensures, w),
-      λ t ready long starts.
-          let h = c.loop-at.invariant.3 t ready long starts in
-          let looks = subst (Looks t h.progress _ _) c.in-Event.is (c.look-seen.ensures.by_index _ t h.progress ready h.place h.last_is) in
-          rw (c.moved_on-one.ensures, c.held_by-held.ensures)
-          (goes_on h _ _ _ looks (c.take-stance.ensures t _ ready (sound (goal.at.loop-at-preserved c).In-Event).2 h.shows.long)),
-    )
+    rw (c.move_on.ensures, c.is_some.ensures)
+    (turned c.loop-at.invariant c.in_ok-event.event c.in_ok-event.ensures.sound c.in_ok-event.ensures.by_index c.take-lack.result c.take-lack.ensures)
 
 pub returns : goal.returns
 returns c =
-    λ t ready long starts. ends (c.loop-at.invariant.3 t ready long starts) c.loop-at-test.false (omega (arith, c.loop-at.invariant.0, c.loop-at.invariant.1)) refl
+    elim c.loop-at-test.branch [
+      | else-loop-at-test w ↦ rw (w.state-is, w.one-is, w.held-is) (followed c.loop-at.invariant (omega arith))
+      | then-loop-at-test+in_ok-event+else-at-end-at-gt4 w ↦
+          rw (w.state-is, w.one-is, w.held-is, w.move_on.ensures, w.is_some.ensures)
+          (followed
+          (turned c.loop-at.invariant w.in_ok-event.event w.in_ok-event.ensures.sound w.in_ok-event.ensures.by_index w.take-lack.result w.take-lack.ensures)
+          (omega arith))
+    ]

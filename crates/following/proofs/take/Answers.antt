@@ -1,9 +1,10 @@
 -- `following::take` meets its contract: what the row's action lacks is told, and where it lacks nothing its variable is set.
 -- Assumes nothing.
-use Rattle.std.proofs.Common.{ℕ, ◌<◌, sym, ◌∙◌, arith}
+use Rattle.std.proofs.Common.{ℕ, ◌<◌, arith}
 use Rattle.study.specs.Study.{Study, action_at}
 use Rattle.barring.specs.Telling.{Tells, Ready}
 use Rattle.following.proofs.Tables.{takes_none, takes_it}
+use borrow.Author.Rules.{rules}
 use Rattle.following.proofs.take.Goals as goal
 use Rattle.following.proofs.take.Goals.{After-action_at-act}
 
@@ -17,24 +18,23 @@ module _ (c : After-action_at-act) where
   here : Tells c.args.file.now c.action_at-act.result (action_at c.requires.0.actions c.args.action)
   here = told c.requires.2 c.requires.3
 
-pub barred-stance-requires : goal.barred-stance-requires
-barred-stance-requires c = (_, here c)
+pub barred-lack-requires : goal.barred-lack-requires
+barred-lack-requires c = (_, here c)
 
 pub bounds-state-wide : goal.bounds-state-wide
 bounds-state-wide c =
     let o = here (goal.at.bounds-state-wide c).After-action_at-act in
-    omega (arith, c.wide-in-Idle.ensures.0, o.var, o.small)
+    omega (arith, c.wide-then-is_none.ensures.0, o.var, o.small)
 
-pub returns-in-Idle : goal.returns-in-Idle
-returns-in-Idle c =
+pub returns-then-is_none : goal.returns-then-is_none
+returns-then-is_none c =
     λ t actions ready there long.
-    rw c.in-Idle.is
-    (takes_it ready c.args.action there c.args.state.now long (told (goal.at.returns-in-Idle c).After-action_at-act ready there) c.wide-in-Idle.ensures.0
-    (sym c.in-Idle.is ∙ c.barred-stance.ensures _ (told (goal.at.returns-in-Idle c).After-action_at-act ready there)))
+    let tells = told (goal.at.returns-then-is_none c).After-action_at-act ready there in
+    takes_it ready c.args.action there c.args.state.now long tells c.wide-then-is_none.ensures.0
+    c.barred-lack.result (search rules) (c.barred-lack.ensures _ tells)
 
-pub returns-in_default : goal.returns-in_default
-returns-in_default c =
+pub returns-else-is_none : goal.returns-else-is_none
+returns-else-is_none c =
     λ t actions ready there long.
-    rw c.in_default.is
-    (takes_none ready c.args.action there c.args.state.now long _
-    (sym c.in_default.is ∙ c.barred-stance.ensures _ (told (goal.at.returns-in_default c).After-action_at-act ready there)))
+    takes_none ready c.args.action there c.args.state.now long c.barred-lack.result (search rules)
+    (c.barred-lack.ensures _ (told (goal.at.returns-else-is_none c).After-action_at-act ready there))

@@ -6,8 +6,8 @@ use Rattle.handing.proofs.finish.Goals as goal
 
 pub returns-then-taken-total : goal.returns-then-taken-total
 returns-then-taken-total c t ranks room sized ended =
-    rw c.unchosen.ensures (fewer_is_ring ended sized c.requires (drop 256 room) c.if-taken-total.true)
+    rw c.refusal.ensures (fewer_is_ring ended sized c.requires (drop 256 room) c.if-taken-total.true)
 
 pub returns : goal.returns
 returns c t ranks room sized ended =
-    rw c.numbers.ensures (all_in_room ended sized c.requires c.if-taken-total.false)
+    rw c.done.ensures (all_in_room ended sized c.requires c.if-taken-total.false)

@@ -10,7 +10,7 @@ returns-then-planned-ne0 c t ranks lawful there =
 
 pub returns-then-plan-total : goal.returns-then-plan-total
 returns-then-plan-total c t ranks lawful there =
-    rw c.numbers.ensures (too_long _ (came_in_room lawful c.args.room.now c.requires.0 there) c.if-planned-ne0.false c.if-plan-total.true)
+    rw c.refusal.ensures (too_long _ (came_in_room lawful c.args.room.now c.requires.0 there) c.if-planned-ne0.false c.if-plan-total.true)
 
 pub copy_out-requires : goal.copy_out-requires
 copy_out-requires c =

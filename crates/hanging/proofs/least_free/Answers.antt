@@ -13,9 +13,12 @@ pub bounds-before-y : goal.bounds-before-y
 bounds-before-y c = omega (arith, c.lowest-y.ensures.room)
 
 pub returns-then-common-eq0 : goal.returns-then-common-eq0
-returns-then-common-eq0 c =
-    looked_free c.loop-rest.invariant c.lowest-y.ensures
-    (nothing_missing c.args.before.now c.args.left c.lowest-y.result c.common.result c.common.ensures c.if-common-eq0.true)
+returns-then-common-eq0 c = record {
+  room = c.lowest-y.ensures.room;
+  least =
+      looked_free c.loop-rest.invariant c.lowest-y.ensures
+      (nothing_missing c.args.before.now c.args.left c.lowest-y.result c.common.result c.common.ensures c.if-common-eq0.true);
+}
 
 pub without_bit-rest-requires : goal.without_bit-rest-requires
 without_bit-rest-requires c = c.lowest-y.ensures.room
@@ -32,4 +35,4 @@ loop-rest-preserved c =
     c.without_bit-rest.result c.without_bit-rest.ensures
 
 pub returns : goal.returns
-returns c = looked_at_all c.loop-rest.invariant c.loop-rest-test.false
+returns c = record { room = tt; least = looked_at_all c.loop-rest.invariant c.loop-rest-test.false }

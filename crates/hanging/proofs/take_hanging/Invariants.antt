@@ -2,7 +2,7 @@
 -- Assumes nothing.
 use mathlib.Core.Path.{◌≡◌}
 use mathlib.Core.List.{List}
-use Prim.Native.Nat.{ℕ, ◌-◌, ◌≤◌}
+use Prim.Native.Nat.{ℕ}
 use lib.ListN.{length}
 use Rattle.hanging.proofs.Taken.{Going}
 use Rattle.hanging.proofs.Named.{Named}
@@ -10,7 +10,4 @@ use Rattle.hanging.proofs.take_hanging.Given as goal
 
 abbrev pub invariant-loop-k : goal.invariant-loop-k
 invariant-loop-k l =
-    (l.k ≤ l.total) × (length l.hung ≡ 64) × ((list : List ℕ) × (Going l.members l.before l.left l.ready l.hung list × Named l.initial.room l.room list l.k))
-
-abbrev pub decreases-loop-k : goal.decreases-loop-k
-decreases-loop-k l = l.total - l.k
+    (length l.hung ≡ 64) × ((list : List ℕ) × (Going l.members l.before l.left l.ready l.hung list × Named l.initial.room l.room list l.k))

@@ -1,7 +1,8 @@
 -- `hanging::take_looking` meets its contract: each round takes the least of those left that has nothing left before it.
 -- Assumes nothing.
+use mathlib.Core.Path.{◌≡◌}
 use mathlib.Core.List.{List}
-use Prim.Native.Nat.{ℕ, ◌-◌, ◌≤◌, ◌<◌}
+use Prim.Native.Nat.{ℕ, ◌≤◌, ◌<◌}
 use native.Mathlib.Decide.{dec_lt}
 use native.Mathlib.Omega.{arith}
 use Rattle.hanging.specs.Hanging.{InWord, Free, LeastFree}
@@ -18,32 +19,21 @@ none-lower {y = y} low z l f = go (dec_lt z y)
     go (no n) = omega arith
 
 pub loop-k-init : goal.loop-k-init
-loop-k-init c = (omega arith, (_, (left_begins c.args.members c.args.before.now, named_begins c.args.room.now c.requires.1)))
+loop-k-init c = (_, (left_begins c.args.members c.args.before.now, named_begins c.args.room.now c.requires.1))
 
-pub returns-then-y-ge64 : goal.returns-then-y-ge64
-returns-then-y-ge64 c =
-    let (few, (list, (left, names))) = c.loop-k.invariant in
-    record { upper_bound = (few, names.long); taken_by_name = record { list = list; greedy = ends_none_free left (c.least_free-y.ensures.none c.if-y-ge64.true); named = names.names } }
-
-pub overflow_add-room : goal.overflow_add-room
-overflow_add-room c = omega arith
-
-pub bounds-room-k : goal.bounds-room-k
-bounds-room-k c = omega arith
-
-pub overflow_add-k : goal.overflow_add-k
-overflow_add-k c = omega arith
-
-pub loop-k-smaller : goal.loop-k-smaller
-loop-k-smaller c = omega arith
+pub returns-in_default : goal.returns-in_default
+returns-in_default c =
+    let (list, (left, names)) = c.loop-k.invariant in
+    record { upper_bound = (omega arith, names.long); taken_by_name = record { list = list; greedy = ends_none_free left (c.in_default.ensures.least.none (omega arith)); named = names.names } }
 
 pub loop-k-preserved : goal.loop-k-preserved
 loop-k-preserved c =
-    let (few, (list, (left, names))) = c.loop-k.invariant in
-    let low = c.least_free-y.ensures in
-    let (own, free) = low.free (omega arith) in
-    (omega arith, (_, (left_on left own free (none-lower low) c.without_bit-left.ensures, named_on names c.least_free-y.result (omega arith) (omega arith))))
+    let (list, (left, names)) = c.loop-k.invariant in
+    let low = c.in-Some.ensures.least in
+    let (own, free) = low.free c.in-Some.ensures.room in
+    (_, (left_on left own free (none-lower low) c.without_bit-left.ensures, named_on names c.in-Some.y (omega (arith, c.in-Some.ensures.room)) (omega arith)))
 
 pub returns : goal.returns
 returns c =
-    let (few, (list, (left, names))) = c.loop-k.invariant in record { upper_bound = (few, names.long); taken_by_name = record { list = list; greedy = ends_all_taken left c.requires.2 (omega (arith, names.count)); named = names.names } }
+    let all : c.loop-k.k ≡ c.args.total = omega arith in
+    let (list, (left, names)) = c.loop-k.invariant in record { upper_bound = (omega arith, names.long); taken_by_name = record { list = list; greedy = ends_all_taken left c.requires.2 (omega (arith, names.count)); named = rw all at names.names } }

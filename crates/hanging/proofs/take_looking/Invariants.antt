@@ -1,13 +1,10 @@
 -- What holds at each turn of `hanging::take_looking`.
 -- Assumes nothing.
 use mathlib.Core.List.{List}
-use Prim.Native.Nat.{ℕ, ◌-◌, ◌≤◌}
+use Prim.Native.Nat.{ℕ}
 use Rattle.hanging.proofs.Left.{Left}
 use Rattle.hanging.proofs.Named.{Named}
 use Rattle.hanging.proofs.take_looking.Given as goal
 
 abbrev pub invariant-loop-k : goal.invariant-loop-k
-invariant-loop-k l = (l.k ≤ l.total) × ((list : List ℕ) × (Left l.members l.before l.left list × Named l.initial.room l.room list l.k))
-
-abbrev pub decreases-loop-k : goal.decreases-loop-k
-decreases-loop-k l = l.total - l.k
+invariant-loop-k l = (list : List ℕ) × (Left l.members l.before l.left list × Named l.initial.room l.room list l.k)

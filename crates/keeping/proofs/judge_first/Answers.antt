@@ -19,7 +19,7 @@ returns-then-report-length c =
     let first = c.args.e.first in
     reports_no_room is range.some taken.so.lawful
     (plan_comes first taken.so taken.sized taken.within (omega (arith, c.if-taken-e.false)))
-    (plan_long (taken_few first taken.so taken.sized taken.within) room taken.sized) c.if-report-length.true c.numbers.ensures refl
+    (plan_long (taken_few first taken.so taken.sized taken.within) room taken.sized) c.if-report-length.true c.refusal.ensures refl
 
 pub returns : goal.returns
 returns c =

@@ -1,6 +1,5 @@
 -- `lacking::lowest` meets its contract: each turn passes one action and keeps `Underway`.
 -- Assumes nothing.
-use Prim.Native.Nat.{◌-◌}
 use Rattle.lacking.proofs.AllActions.{begins, in_table_lem, low_var, low_pre, stand, skips, goes_on, ends}
 use Rattle.lacking.proofs.lowest.Goals.{then-steps-j, else-steps-j}
 use Rattle.lacking.proofs.lowest.Goals as goal
@@ -31,8 +30,5 @@ loop-i-preserved c =
       | else-steps-j w ↦ rw w.best-is (skips u h c.action_at-act.ensures v p w.if-steps-j.false)
     ]
 
-pub as_two-requires : goal.as_two-requires
-as_two-requires c = c.loop-i.invariant.so_far_lem.lower
-
 pub returns : goal.returns
-returns c = λ t able met. rw c.as_two.ensures (ends c.loop-i.invariant c.loop-i-test.false t able met)
+returns c = ends c.loop-i.invariant c.loop-i-test.false

@@ -1,16 +1,16 @@
 -- `lacking::weigh_wanted` meets its contract: each turn passes one condition and keeps `Underway`.
 -- Assumes nothing.
-use Prim.Native.Nat.{◌+◌, ◌*◌, ◌-◌, ◌<◌}
+use Prim.Native.Nat.{◌+◌, ◌*◌, ◌<◌}
 use native.Mathlib.Omega.{arith}
 use Rattle.wanting.proofs.Conditions.{Here}
-use Rattle.lacking.proofs.Wanted.{begins, here, few_conditions, in_table_lem, step_fits, goes_on, ends}
+use Rattle.lacking.proofs.Wanted.{begins, here, in_table_lem, step_fits, goes_on, ends}
 use Rattle.lacking.proofs.weigh_wanted.Goals as goal
 use Rattle.lacking.proofs.weigh_wanted.Goals.{After-wide, In-loop-k}
 
 -- in a turn, a condition that fits the tables stands at the place
 there :
     (d : In-loop-k)
-    → Here d.args.file.now d.loop-k.at (here d.loop-k.invariant d.loop-k-test.true).0
+    → Here d.args.file.now (d.args.act.place + 3 * d.loop-k.k) (here d.loop-k.invariant d.loop-k-test.true).0
 there d = (here d.loop-k.invariant d.loop-k-test.true).1
 
 -- its value has an entry in the tables
@@ -22,7 +22,7 @@ pub loop-k-init : goal.loop-k-init
 loop-k-init c = begins c.requires
 
 pub overflow_add-q : goal.overflow_add-q
-overflow_add-q c = omega (arith, there c)
+overflow_add-q c = omega (arith, there (goal.at.overflow_add-q c).In-loop-k)
 
 pub bounds-file-at : goal.bounds-file-at
 bounds-file-at c = omega (arith, there (goal.at.bounds-file-at c).In-loop-k)
@@ -48,13 +48,6 @@ bounds-steps-j c = entry (goal.at.bounds-steps-j c).After-wide
 pub weigh_leaver-best-requires : goal.weigh_leaver-best-requires
 weigh_leaver-best-requires c =
     step_fits c.loop-k.invariant c.loop-k-test.true c.wide-v.ensures.0 c.wide.ensures.0
-
-pub overflow_add-at-in-loop-k : goal.overflow_add-at-in-loop-k
-overflow_add-at-in-loop-k c = omega (arith, there (goal.at.overflow_add-at-in-loop-k c).In-loop-k)
-
-pub overflow_add-k : goal.overflow_add-k
-overflow_add-k c =
-    omega (arith, c.loop-k-test.true, few_conditions c.loop-k.invariant c.loop-k-test.true)
 
 pub loop-k-preserved : goal.loop-k-preserved
 loop-k-preserved c =

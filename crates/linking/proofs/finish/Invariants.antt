@@ -1,7 +1,7 @@
 -- What holds at each turn of `linking::finish`.
 -- Assumes nothing.
 use mathlib.Core.List.{List}
-use Prim.Native.Nat.{ℕ, ◌+◌, ◌-◌}
+use Prim.Native.Nat.{ℕ, ◌+◌}
 use Rattle.linking.proofs.Sets.{missing}
 use Rattle.linking.proofs.Searching.{Going}
 use Rattle.linking.proofs.finish.Given as goal

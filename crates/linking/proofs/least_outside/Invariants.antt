@@ -1,11 +1,8 @@
 -- What holds at each turn of `linking::least_outside`.
 -- Assumes nothing.
-use Prim.Native.Nat.{◌*◌, ◌-◌, ◌≤◌}
+use Prim.Native.Nat.{◌*◌}
 use Rattle.linking.proofs.Sets.{CoveredTo}
 use Rattle.linking.proofs.least_outside.Given as goal
 
 abbrev pub invariant-loop-q : goal.invariant-loop-q
-invariant-loop-q l = (l.q ≤ 4) × CoveredTo l.set l.other (64 * l.q)
-
-abbrev pub decreases-loop-q : goal.decreases-loop-q
-decreases-loop-q l = 4 - l.q
+invariant-loop-q l = CoveredTo l.set l.other (64 * l.q)

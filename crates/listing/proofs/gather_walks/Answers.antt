@@ -1,6 +1,5 @@
 -- `listing::gather_walks` meets its contract: each turn passes one action and keeps `Underway`.
 -- Assumes nothing.
-use Prim.Native.Nat.{◌-◌}
 use Rattle.listing.proofs.Walking.{begins, in_table_lem, skips, goes_on, ends}
 use Rattle.listing.proofs.gather_walks.Goals.{then-steps-j, else-steps-j}
 use Rattle.listing.proofs.gather_walks.Goals as goal

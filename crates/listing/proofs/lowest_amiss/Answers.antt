@@ -1,26 +1,37 @@
--- `listing::lowest_amiss` meets its contract: what repeats in the list or is in just one of list and members is in one set, whose least is answered.
+-- `listing::lowest_amiss` meets its contract: each turn puts one more entry into the sets; what repeats or is in just one of list and members is in one set, whose least is answered.
 -- Assumes nothing.
+use mathlib.Core.Path.{◌≡◌, sym, ◌∙◌}
+use mathlib.Core.Bool.{true}
+use Prim.Native.Nat.{ℕ, ◌<◌}
 use native.Mathlib.Omega.{arith}
-use borrow.Author.Rules.{rules}
-use Rattle.bits.proofs.Members.{fresh_empty}
-use Rattle.listing.proofs.Amiss.{member_low, same_set, finds}
+use Rattle.orders.proofs.Lists.{in_has_place}
+use Rattle.listing.proofs.Gathering.{none_by, again_by, new_by, all_by}
+use Rattle.listing.proofs.Amiss.{same_set, finds}
 use Rattle.listing.proofs.lowest_amiss.Goals as goal
+use Rattle.listing.proofs.lowest_amiss.Goals.{then-contains, else-contains}
 
-pub gather-requires : goal.gather-requires
-gather-requires c = (search rules, search rules, fresh_empty 4, fresh_empty 4)
+pub loop-i-init : goal.loop-i-init
+loop-i-init g c = none_by c.empty-listed.ensures c.empty-amiss.ensures
+
+pub loop-i-preserved : goal.loop-i-preserved
+loop-i-preserved g c =
+    let by = c.loop-i.invariant in
+    let h = c.loop-i-test.true in
+    elim c.if-contains.branch [
+      | then-contains w ↦ rw w.amiss-is (again_by by h (sym c.contains.ensures ∙ w.if-contains.true) c.add-in-loop-i.ensures w.add.ensures)
+      | else-contains w ↦ rw w.amiss-is (new_by by h (sym c.contains.ensures ∙ w.if-contains.false) c.add-in-loop-i.ensures)
+    ]
 
 pub returns : goal.returns
-returns c =
-    let one = c.gather.ensures in
-    let members = c.requires in record {
-      set_of = λ none. same_set c.args.list.now _ _ _ _ one.set_len.0 members c.differ.ensures.differing (λ i h. c.least.ensures.none_below i (omega arith)) one.set_of.0;
+returns g c =
+    let list = c.args.list.now in
+    let (set, again) = all_by c.loop-i.invariant c.loop-i-test.false in
+    let low : (i : ℕ) → g.S.ActionSet.has c.loop-i.listed i ≡ true → i < 256 =
+    λ i w. let (k, (l, e)) = in_has_place i list ((set i).0 w) in omega (arith, c.type_inv.list k) in
+    let differ = c.add_unlike.ensures in
+    record {
+      set_of = λ none.
+          same_set list _ _ _ _ low c.requires.few_members differ (λ i h. (rw none at c.least.ensures).none_below i (omega arith)) set;
       finds_amiss = λ t walks.
-          finds record {
-            listed_low = member_low _ one.set_len.0;
-            walking_low = member_low _ members;
-            set = one.set_of.0;
-            again = one.set_of.1;
-            walks = walks;
-            differ = c.differ.ensures.differing;
-          } record { most = c.least.ensures.most; there = c.least.ensures.there; none_below = c.least.ensures.none_below };
+          finds record { listed_low = low; walking_low = c.requires.few_members; set = set; again = again; walks = walks; differ = differ } c.least.ensures;
     }

@@ -36,13 +36,12 @@ returns-then-at_end c sized eight =
     let safe = c.crews-manned.ensures.safe.0 in
     let (there, may) = c.at_end.ensures c.if-at_end.true in
     let read = sections-read (goal.at.returns-then-at_end c).After-crews-manned sized eight in
-    rw c.told.ensures
-    (tells_the_file safe read (seen_all c.actions-acted.new.acts c.variables-varied.new.rows c.on_end.new.setters) _ c.on_end.result (goes_nowhere c.on_end.ensures.by_index) (
+    tells_the_file safe read (seen_all c.actions-acted.new.acts c.variables-varied.new.rows c.on_end.new.setters) _ c.on_end.result (goes_nowhere c.on_end.ensures.by_index) (
       c.on_end.ensures.by_index _ _ _,
       λ d stands.
           rw (end_verdict _ _ _ _ (seen_all c.actions-acted.new.acts c.variables-varied.new.rows c.args.setters.now) _ safe there may d stands)
           (c.on_end.ensures.meets _ _ _ _ _ d refl stands),
-    ))
+    ) c.told.result c.told.ensures
 
 pub returns : goal.returns
 returns c sized eight = c.read_on.ensures (sections-read (goal.at.returns c).After-crews-manned sized eight)

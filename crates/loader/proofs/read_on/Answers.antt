@@ -16,9 +16,8 @@ returns-in_default c =
     let (safe, reached) = c.loop-next.invariant in
     let n = c.step-taken.new in
     λ h.
-    rw c.told.ensures
-    (tells_the_file safe (reached h) (seen_all n.acts n.vars n.setters) n.crews c.step-taken.result (λ q e. not_on (keys_of c.in_default.in_default-own.keys2) e)
-    (c.step-taken.ensures.further, c.step-taken.ensures.meets))
+    tells_the_file safe (reached h) (seen_all n.acts n.vars n.setters) n.crews c.step-taken.result (λ q e. not_on (keys_of c.in_default.in_default-own.keys2) e)
+    (c.step-taken.ensures.further, c.step-taken.ensures.meets) c.told.result c.told.ensures
 
 pub loop-next-smaller : goal.loop-next-smaller
 loop-next-smaller c =

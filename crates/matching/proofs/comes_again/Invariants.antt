@@ -2,7 +2,7 @@
 -- Assumes nothing.
 use mathlib.Core.Path.{◌≡◌}
 use mathlib.Core.List.{List}
-use Prim.Native.Nat.{ℕ, ◌+◌, ◌-◌, ◌≤◌, ◌<◌}
+use Prim.Native.Nat.{ℕ, ◌+◌}
 use lib.ListN.{length, drop}
 use Rattle.varied.specs.Figures.{is_among}
 use Rattle.matching.specs.Kept.{plan_at, Kept}
@@ -10,8 +10,5 @@ use Rattle.matching.proofs.comes_again.Given as goal
 
 abbrev pub invariant-loop-k : goal.invariant-loop-k
 invariant-loop-k l =
-    (l.j < l.k) × ((l.k ≤ l.n) × ((plans : List (List ℕ)) → length plans ≡ l.n → Kept l.region l.base l.stride l.len plans
-    → is_among (plan_at plans l.j) (drop (l.j + 1) plans) ≡ is_among (plan_at plans l.j) (drop l.k plans)))
-
-abbrev pub decreases-loop-k : goal.decreases-loop-k
-decreases-loop-k l = l.n - l.k
+    (plans : List (List ℕ)) → length plans ≡ l.n → Kept l.region l.base l.stride l.len plans
+    → is_among (plan_at plans l.j) (drop (l.j + 1) plans) ≡ is_among (plan_at plans l.j) (drop l.k plans)

@@ -2,7 +2,7 @@
 -- Assumes nothing.
 use mathlib.Core.Path.{◌≡◌}
 use mathlib.Core.Bool.{Bool, true, false, not}
-use Prim.Native.Nat.{◌+◌, ◌-◌, ◌≤◌}
+use Prim.Native.Nat.{◌+◌, ◌≤◌}
 use native.Mathlib.Omega.{arith}
 use Rattle.ranks.specs.Ranks.{one}
 use Rattle.matching.proofs.Differing.{different-next, different_none}
@@ -22,31 +22,19 @@ found-more c =
     ]
 
 pub loop-j-init : goal.loop-j-init
-loop-j-init c = (omega arith, (omega arith, λ plans each kept. omega arith))
+loop-j-init c = (omega arith, λ plans each kept. omega arith)
 
 pub comes_again-requires : goal.comes_again-requires
-comes_again-requires c = (c.loop-j-test.true, c.requires.0, c.requires.1)
-
-pub overflow_add-found : goal.overflow_add-found
-overflow_add-found c = omega arith
-
-pub overflow_add-j : goal.overflow_add-j
-overflow_add-j c = omega arith
-
-pub loop-j-smaller : goal.loop-j-smaller
-loop-j-smaller c = omega arith
+comes_again-requires c = (omega arith, c.requires.0, c.requires.1)
 
 pub loop-j-preserved : goal.loop-j-preserved
 loop-j-preserved c = (
-  omega arith,
-  (
-    omega (arith, found-more c, one_at_most (not c.comes_again.result)),
-    λ plans each kept.
-        let next = rw (← c.comes_again.ensures plans each kept) at (different-next plans c.loop-j.j (omega arith)) in
-        omega (arith, found-more c, next, c.loop-j.invariant.1.1 plans each kept),
-  ),
+  omega (arith, found-more c, one_at_most (not c.comes_again.result)),
+  λ plans each kept.
+      let next = rw (← c.comes_again.ensures plans each kept) at (different-next plans c.loop-j.j (omega arith)) in
+      omega (arith, found-more c, next, c.loop-j.invariant.1 plans each kept),
 )
 
 pub returns : goal.returns
 returns c =
-    record { upper_bound = omega arith; by_index = λ plans each kept. omega (arith, different_none plans c.loop-j.j (omega arith), c.loop-j.invariant.1.1 plans each kept) }
+    record { upper_bound = omega arith; by_index = λ plans each kept. omega (arith, different_none plans c.loop-j.j (omega arith), c.loop-j.invariant.1 plans each kept) }

@@ -2,7 +2,7 @@
 -- Assumes nothing.
 use mathlib.Core.Path.{◌≡◌}
 use mathlib.Core.List.{List}
-use Prim.Native.Nat.{ℕ, ◌+◌, ◌-◌, ◌≤◌}
+use Prim.Native.Nat.{ℕ, ◌+◌, ◌≤◌}
 use lib.ListN.{length, drop}
 use Rattle.varied.specs.Figures.{different as Figures·different}
 use Rattle.matching.specs.Kept.{Kept}
@@ -10,8 +10,5 @@ use Rattle.matching.proofs.different.Given as goal
 
 abbrev pub invariant-loop-j : goal.invariant-loop-j
 invariant-loop-j l =
-    (l.j ≤ l.n) × ((l.found ≤ l.j) × ((plans : List (List ℕ)) → length plans ≡ l.n → Kept l.region l.base l.stride l.len plans
-    → l.found + Figures·different (drop l.j plans) ≡ Figures·different plans))
-
-abbrev pub decreases-loop-j : goal.decreases-loop-j
-decreases-loop-j l = l.n - l.j
+    (l.found ≤ l.j) × ((plans : List (List ℕ)) → length plans ≡ l.n → Kept l.region l.base l.stride l.len plans
+    → l.found + Figures·different (drop l.j plans) ≡ Figures·different plans)

@@ -1,7 +1,6 @@
 -- `matching::same` meets its contract: each turn compares one entry, and the plans are the same if they are from there on.
 -- Assumes nothing.
 use mathlib.Core.Path.{refl, sym, ◌∙◌}
-use Prim.Native.Nat.{◌-◌}
 use native.Mathlib.Omega.{arith}
 use Rattle.matching.specs.Kept.{plan_at}
 use Rattle.matching.proofs.Places.{row_within}
@@ -9,39 +8,20 @@ use Rattle.matching.proofs.Differing.{entries_same, entries_differ, no_entry_lef
 use Rattle.matching.proofs.same.Goals as goal
 
 pub loop-p-init : goal.loop-p-init
-loop-p-init c = (omega arith, (omega arith, λ plans a b kept. refl))
+loop-p-init c = λ plans a b kept. refl
 
-pub overflow_add-at : goal.overflow_add-at
-overflow_add-at c = omega (arith, row_within c.args.stride c.loop-p-test.true)
-
-pub bounds-region-at : goal.bounds-region-at
-bounds-region-at c = omega (arith, row_within c.args.stride c.loop-p-test.true)
-
-pub overflow_add-at-in-loop-p : goal.overflow_add-at-in-loop-p
-overflow_add-at-in-loop-p c = omega (arith, row_within c.args.stride c.loop-p-test.true)
-
-pub bounds-region-at-in-loop-p : goal.bounds-region-at-in-loop-p
-bounds-region-at-in-loop-p c = omega (arith, row_within c.args.stride c.loop-p-test.true)
+pub overflow_mul-at : goal.overflow_mul-at
+overflow_mul-at c = omega (arith, row_within c.args.stride c.loop-p-test.true)
 
 pub returns-then-region-at : goal.returns-then-region-at
 returns-then-region-at c =
-    λ plans a b kept. sym (c.loop-p.invariant.1.1 plans a b kept ∙ entries_differ kept a b c.loop-p.invariant.1.0 c.loop-p-test.true c.if-region-at.true)
-
-pub overflow_add-at-in-loop-p-2 : goal.overflow_add-at-in-loop-p-2
-overflow_add-at-in-loop-p-2 c = omega (arith, row_within c.args.stride c.loop-p-test.true)
-
-pub overflow_add-p : goal.overflow_add-p
-overflow_add-p c = omega arith
-
-pub loop-p-smaller : goal.loop-p-smaller
-loop-p-smaller c = omega arith
+    λ plans a b kept. sym (c.loop-p.invariant plans a b kept ∙ entries_differ kept a b refl c.loop-p-test.true c.if-region-at.true)
 
 pub loop-p-preserved : goal.loop-p-preserved
-loop-p-preserved c =
-    (omega arith, (omega arith, λ plans a b kept. c.loop-p.invariant.1.1 plans a b kept ∙ entries_same kept a b c.loop-p.invariant.1.0 c.loop-p-test.true c.if-region-at.false))
+loop-p-preserved c = λ plans a b kept. c.loop-p.invariant plans a b kept ∙ entries_same kept a b refl c.loop-p-test.true c.if-region-at.false
 
 pub returns : goal.returns
 returns c =
     λ plans a b kept.
-    sym (c.loop-p.invariant.1.1 plans a b kept
+    sym (c.loop-p.invariant plans a b kept
     ∙ no_entry_left (plan_at plans _) (plan_at plans _) c.loop-p.p (omega (arith, kept.even _ a)) (omega (arith, kept.even _ b)))

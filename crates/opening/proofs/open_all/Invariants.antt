@@ -1,11 +1,7 @@
 -- What holds at each turn of `opening::open_all`.
 -- Assumes nothing.
-use Prim.Native.Nat.{◌-◌, ◌≤◌}
 use Rattle.opening.specs.Opening.{Joined, OpensBelow}
 use Rattle.opening.proofs.open_all.Given as goal
 
 abbrev pub invariant-loop-v : goal.invariant-loop-v
-invariant-loop-v l = (l.v ≤ l.n) × Joined (OpensBelow l.v l.ranks l.steps l.wants l.state) l.initial.opened l.opened
-
-abbrev pub decreases-loop-v : goal.decreases-loop-v
-decreases-loop-v l = l.n - l.v
+invariant-loop-v l = Joined (OpensBelow l.v l.ranks l.steps l.wants l.state) l.initial.opened l.opened

@@ -2,12 +2,11 @@
 -- Assumes nothing.
 use mathlib.Core.Path.{◌≡◌, sym, ◌∙◌}
 use mathlib.Core.List.{List, []}
-use Prim.Native.Nat.{ℕ, ◌-◌}
+use Prim.Native.Nat.{ℕ}
 use native.Mathlib.Omega.{arith}
 use lib.ListN.{length}
 use borrow.Author.Tests.{eq-eqb, ne_eqb}
-use Rattle.ranking.specs.Ranking.{tested_from, tested}
-use Rattle.ranking.specs.declared.Tested.{Tested}
+use Rattle.ranking.specs.Ranking.{Tested, tested_from, tested}
 use Rattle.ranking.proofs.Marks.{none_marked, too_large, repeated, one_more, all_tested}
 use Rattle.ranking.proofs.test.Goals as goal
 
@@ -23,30 +22,18 @@ returns-then-ranks-actions c = rw (ne_eqb _ _ c.if-ranks-actions.true)
 pub loop-k-init : goal.loop-k-init
 loop-k-init c = none_marked _ _
 
-pub bounds-ranks-k : goal.bounds-ranks-k
-bounds-ranks-k c = omega arith
-
-pub overflow_cast-entry : goal.overflow_cast-entry
-overflow_cast-entry c = omega (arith, c.shared_slice_known-in-loop-k-1.given c.loop-k.k)
-
-pub returns-then-actions-entry : goal.returns-then-actions-entry
-returns-then-actions-entry c =
-    from_entries _ _ c.if-ranks-actions.false (too_large c.loop-k.invariant c.loop-k-test.true c.if-actions-entry.true)
+pub returns-then-actions-from : goal.returns-then-actions-from
+returns-then-actions-from c =
+    from_entries _ _ c.if-ranks-actions.false (too_large c.loop-k.invariant c.loop-k-test.true (omega arith))
 
 pub returns-then-repeats : goal.returns-then-repeats
 returns-then-repeats c =
     from_entries _ _ c.if-ranks-actions.false
-    (repeated c.loop-k.invariant c.loop-k-test.true c.if-actions-entry.false (sym c.contains-repeats.ensures ∙ c.if-repeats.true))
-
-pub overflow_add-k : goal.overflow_add-k
-overflow_add-k c = omega arith
-
-pub loop-k-smaller : goal.loop-k-smaller
-loop-k-smaller c = omega arith
+    (repeated c.loop-k.invariant c.loop-k-test.true (omega arith) (sym c.contains-repeats.ensures ∙ c.if-repeats.true))
 
 pub loop-k-preserved : goal.loop-k-preserved
 loop-k-preserved c =
-    one_more c.loop-k.invariant c.loop-k-test.true c.if-actions-entry.false (sym c.contains-repeats.ensures ∙ c.if-repeats.false) c.add.ensures
+    one_more c.loop-k.invariant c.loop-k-test.true (omega arith) (sym c.contains-repeats.ensures ∙ c.if-repeats.false) c.add.ensures
 
 pub returns : goal.returns
-returns c = from_entries _ _ c.if-ranks-actions.false (all_tested c.loop-k.invariant c.loop-k-test.false)
+returns c = from_entries _ _ c.if-ranks-actions.false (all_tested c.loop-k.invariant (omega arith))

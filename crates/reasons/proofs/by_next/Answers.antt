@@ -16,5 +16,5 @@ returns c =
       upper_bound = (omega (arith, c.add.ensures.value.0), c.add.ensures.value.1);
       by_index = λ file wanters t plan j known step.
           next_told known step c.wide-v.ensures.0 c.wide.ensures.0
-          (λ e. c.if-act-var.false (e ∙ sym c.variable_at-var.ensures.start)) refl c.wide-2.ensures.0 c.add.ensures.facts_after;
+          (λ e. c.if-act-var.false (e ∙ sym c.variable_at-var.ensures.start)) refl c.from.ensures c.add.ensures.facts_after;
     }

@@ -9,27 +9,32 @@ use Rattle.tables.proofs.Fresh.{fresh_sized}
 use Rattle.bits.proofs.Members.{fresh_empty}
 use Rattle.stages.proofs.Stages.{held_wishes}
 use Rattle.wanters.proofs.Fresh.{fresh_in_fours, fresh_all_empty}
-use Rattle.recounting.proofs.Planned.{loads_holds, steps_differ, step_on, left_set, wanted_set, held_reasonable}
+use Rattle.recounting.proofs.Planned.{loads_there, loads_holds, steps_differ, step_on, left_set, wanted_set, held_reasonable}
 use Rattle.recounting.proofs.print_plan.Goals as goal
 
-pub load_for-loaded-requires : goal.load_for-loaded-requires
-load_for-loaded-requires c = fresh_sized
+pub load_for-requires : goal.load_for-requires
+load_for-requires c = fresh_sized
+
+pub unwrap-loaded-requires : goal.unwrap-loaded-requires
+unwrap-loaded-requires c =
+    let (t, said, straight) = c.requires.1 in
+    loads_there c.args.file.now c.args.crew t _ c.load_for.result said c.load_for.ensures
 
 pub place_all-requires : goal.place_all-requires
 place_all-requires c =
     let (t, said, straight) = c.requires.1 in
-    (refl, c.requires.0, steps_differ (heard_lawful c.args.file.now c.args.crew t said) (loads_holds c.args.file.now c.args.crew t said (rw c.in-Study.is at c.load_for-loaded.ensures)) straight)
+    (refl, c.requires.0, steps_differ (heard_lawful c.args.file.now c.args.crew t said) (loads_holds c.args.file.now c.args.crew t said (rw c.unwrap-loaded.ensures at c.load_for.ensures)) straight)
 
 pub note_all-requires : goal.note_all-requires
 note_all-requires c =
     let (t, said, straight) = c.requires.1 in
-    (refl, fresh_in_fours, (t, held_wishes (heard_lawful c.args.file.now c.args.crew t said) (loads_holds c.args.file.now c.args.crew t said (rw c.in-Study.is at c.load_for-loaded.ensures)).actions))
+    (refl, fresh_in_fours, (t, held_wishes (heard_lawful c.args.file.now c.args.crew t said) (loads_holds c.args.file.now c.args.crew t said (rw c.unwrap-loaded.ensures at c.load_for.ensures)).actions))
 
 pub print_steps-requires : goal.print_steps-requires
 print_steps-requires c =
     let (t, said, straight) = c.requires.1 in
     let lawful = heard_lawful c.args.file.now c.args.crew t said in
-    let holds = loads_holds c.args.file.now c.args.crew t said (rw c.in-Study.is at c.load_for-loaded.ensures) in (
+    let holds = loads_holds c.args.file.now c.args.crew t said (rw c.unwrap-loaded.ensures at c.load_for.ensures) in (
       t,
       record {
         few = c.requires.0;

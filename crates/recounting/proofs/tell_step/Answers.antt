@@ -3,6 +3,7 @@
 use mathlib.Core.Path.{refl}
 use native.Mathlib.Omega.{arith}
 use lib.ListN.{get_or}
+use lib.Seq.{length-take-le}
 use Rattle.explained.specs.Reasons.{reasons_of}
 use Rattle.telling.proofs.Placed.{then}
 use Rattle.recounting.proofs.tell_step.Goals as goal
@@ -14,8 +15,9 @@ of_step-n-requires c =
 
 pub returns : goal.returns
 returns c =
+    let many = length-take-le c.of_step-n.result c.of_step-n.new.facts (omega (arith, c.of_step-n.ensures.upper_bound.0, c.of_step-n.ensures.upper_bound.1)) in
     record {
-      upper_bound = (omega (arith, c.lines.ensures.upper_bound.0, c.of_step-n.ensures.upper_bound.0, c.step-begin.ensures.0), omega (arith, c.lines.ensures.upper_bound.1, c.step-begin.auto.out, c.requires.1));
+      upper_bound = (omega (arith, many, c.lines.ensures.upper_bound.0, c.of_step-n.ensures.upper_bound.0, c.step-begin.ensures.0), omega (arith, c.lines.ensures.upper_bound.1, c.step-begin.auto.out, c.requires.1));
       out_after = λ t ready.
           let opened = rw c.wide-action.ensures.0 at c.action_at-act.ensures in
           let step = ready.step c.args.k c.requires.0 opened in

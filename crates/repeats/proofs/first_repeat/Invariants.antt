@@ -1,20 +1,17 @@
--- What holds at each turn of `repeats::first_repeat`.
+-- What holds at each turn of `repeats::first_repeat`: the marks tell what the actions before the entry set, none of those repeats, and the entry's action stands at the place.
 -- Assumes nothing.
-use mathlib.Core.Path.{◌≡◌}
 use mathlib.Core.List.{List}
-use Prim.Native.Nat.{ℕ, ◌*◌, ◌-◌, ◌≤◌}
-use lib.ListN.{length}
+use Prim.Native.Nat.{◌+◌, ◌*◌, ◌≤◌}
 use Rattle.study.specs.Study.{Condition}
 use Rattle.spelling.specs.Lent.{actions_in}
-use Rattle.repeats.specs.Repeats.{Small, place_of}
+use Rattle.repeats.specs.Repeats.{Small}
 use Rattle.repeats.proofs.Looking.{Looked}
 use Rattle.repeats.proofs.first_repeat.Given as goal
 
-abbrev pub invariant-loop-i : goal.invariant-loop-i
-invariant-loop-i l =
-    (l.i ≤ length l.actions) × (length l.marks ≡ 8)
-    × ((k : ℕ) × (l.i ≡ 5 * k)
-    × ((conditions : List Condition) → Small (actions_in l.actions conditions) → Looked l.situation l.front l.actions (actions_in l.actions conditions) l.marks (place_of l.front l.actions k) l.i))
-
-abbrev pub decreases-loop-i : goal.decreases-loop-i
-decreases-loop-i l = length l.actions - l.i
+abbrev pub invariant-loop-var : goal.invariant-loop-var
+invariant-loop-var l = record {
+  near : l.place ≤ 30000 + 771 * l.var-index;
+  looked :
+      (conditions : List Condition) → Small (actions_in l.actions conditions)
+      → Looked l.situation l.front l.actions (actions_in l.actions conditions) l.marks l.place (5 * l.var-index);
+}

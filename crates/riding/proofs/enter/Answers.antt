@@ -1,35 +1,44 @@
 -- `riding::enter` meets its contract: each turn enters one ride without fault.
 -- Assumes nothing.
-use mathlib.Core.Path.{sym, ap, ◌∙◌}
-use Prim.Native.Nat.{◌-◌}
-use native.Mathlib.Omega.{arith}
-use Rattle.answer.specs.declared.Answer.{Answer}
+use Rattle.std.proofs.Common.{rules, arith, ◌<◌, length, ap, sym}
 use Rattle.riding.specs.Tables.{fault_told}
-use Rattle.riding.proofs.Entering.{none_entered, ends_cut, all_passed, all_hold, ends_wrong, one_entered}
+use Rattle.riding.proofs.Entering.{none_entered, whole_ride, ends_cut, all_passed, all_hold, ends_wrong, one_entered}
+use Rattle.riding.proofs.enter.Goals.{in_default-via-then-bytes-lt3, in_default-via-else-bytes-lt3+else-bytes-lt4}
 use Rattle.riding.proofs.enter.Goals as goal
 
-pub loop-at-init : goal.loop-at-init
-loop-at-init c = none_entered c.requires
+pub loop-k-init : goal.loop-k-init
+loop-k-init c = (search rules, search rules, search rules, search (rules, none_entered))
 
-pub returns-then-rides-at-lt3 : goal.returns-then-rides-at-lt3
-returns-then-rides-at-lt3 c =
-    let s = c.loop-at.invariant in record { sized = (s.sized, s.kept); value = c.answered.ensures ∙ sym (ap fault_told (ends_cut s (omega arith) (omega arith))); holds = λ z. absurd (omega (arith, z, ap (λ (a : Answer). a.number) c.answered.ensures)) }
+pub returns-in_default-clause-value : goal.returns-in_default-clause-value
+returns-in_default-clause-value c =
+    let s = c.loop-k.invariant in
+    let ((_, (_, long, more)), e, _, _) = c.in-Some.ensures.steps in
+    let few : length c.loop-k.k-iterator.iter.rest.now < 3 = elim c.in_default.branch [
+      | in_default-via-then-bytes-lt3 w ↦ grind (arith, s.2, long)
+      | in_default-via-else-bytes-lt3+else-bytes-lt4 w ↦ absurd (grind (arith, s.2, long))
+    ] in
+    rw (c.refusal.ensures, e) (sym (ap fault_told (ends_cut s.3 more few)))
 
-pub returns-then-wrong-ne0 : goal.returns-then-wrong-ne0
-returns-then-wrong-ne0 c =
-    let s = c.loop-at.invariant in record {
-      sized = (s.sized, s.kept);
-      value = c.answered-then-wrong-ne0.ensures
-          ∙ sym (ap fault_told (ends_wrong s (omega arith) c.wide-action.ensures.0 c.wide-action.ensures.1 c.wrong_with-wrong.result c.wrong_with-wrong.ensures c.if-wrong-ne0.true));
-      holds = λ z. absurd (c.if-wrong-ne0.true (sym (ap (λ (c : Answer). c.number) c.answered-then-wrong-ne0.ensures) ∙ z));
-    }
+pub returns-in-Err-clause-value : goal.returns-in-Err-clause-value
+returns-in-Err-clause-value c =
+    let s = c.loop-k.invariant in
+    let ((_, (split, long, _)), e, _, _) = c.in-Some.ensures.steps in
+    let low : c.from-action.result < 256 = omega arith in
+    rw (c.refusal-in-Err.ensures, e) (sym (ap fault_told (ends_wrong s.3 (whole_ride c.in-Some.bytes.now split (omega arith)) (rw c.from-action.ensures at low) c.in-Err.rule (rw c.from-action.ensures at c.in-Err.ensures))))
 
-pub loop-at-preserved : goal.loop-at-preserved
-loop-at-preserved c =
-    let s = c.loop-at.invariant in
-    one_entered s (omega arith) c.wide-action.ensures.0 c.wide-action.ensures.1 (sym c.wrong_with-wrong.ensures ∙ c.if-wrong-ne0.false)
+pub loop-k-preserved : goal.loop-k-preserved
+loop-k-preserved c =
+    let s = c.loop-k.invariant in
+    let ((_, (split, _, _)), _, e, _) = c.in-Some.ensures.steps in
+    let low : c.from-action.result < 256 = omega arith in (
+      search rules,
+      search rules,
+      search rules,
+      rw (e, c.from-action.ensures) (one_entered s.3 (whole_ride c.in-Some.bytes.now split (omega arith)) (rw c.from-action.ensures at low) (sym (rw c.from-action.ensures at c.in_default-tested.ensures))),
+    )
 
-pub returns : goal.returns
-returns c =
-    let s = c.loop-at.invariant in
-    record { sized = (s.sized, s.kept); value = c.answered-2.ensures ∙ sym (ap fault_told (all_passed s c.loop-at-test.false)); holds = λ z. all_hold s c.loop-at-test.false }
+pub returns-clause-value : goal.returns-clause-value
+returns-clause-value c = ap fault_told (sym (all_passed c.loop-k.invariant.3 c.in-None.ensures.steps.0.1.0))
+
+pub returns-clause-holds : goal.returns-clause-holds
+returns-clause-holds c = all_hold c.loop-k.invariant.3 c.in-None.ensures.steps.0.1.0

@@ -1,12 +1,10 @@
 -- What holds at each turn of `riding::enter`.
 -- Assumes nothing.
-use Prim.Native.Nat.{◌-◌}
-use lib.ListN.{length}
+use Rattle.std.proofs.Common.{◌≡◌}
 use Rattle.riding.proofs.Entering.{EnteredSoFar}
 use Rattle.riding.proofs.enter.Given as goal
 
-abbrev pub invariant-loop-at : goal.invariant-loop-at
-invariant-loop-at l = EnteredSoFar l.rides l.actions l.initial.tos l.froms l.tos l.at l.k
-
-abbrev pub decreases-loop-at : goal.decreases-loop-at
-decreases-loop-at l = length l.rides - l.at
+abbrev pub invariant-loop-k : goal.invariant-loop-k
+invariant-loop-k l =
+    (goal.iterator-loop-k).can_next l.k-iterator × (goal.iterator-loop-k).is_finite l.k-iterator × (l.k-iterator.iter.size ≡ 3)
+    × EnteredSoFar l.rides l.actions l.initial.tos l.froms l.tos l.k-iterator.iter.rest.now l.k-iterator.count

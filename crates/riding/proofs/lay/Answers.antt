@@ -9,7 +9,7 @@ use Rattle.riding.proofs.lay.Goals as goal
 
 pub returns-then-journeys-many : goal.returns-then-journeys-many
 returns-then-journeys-many c =
-    short_laid _ c.args.journeys.now c.count-many.result c.answered.result c.count-many.ensures.1 c.if-journeys-many.true c.answered.ensures
+    short_laid _ c.args.journeys.now c.count-many.result c.refusal.result c.count-many.ensures.1 c.if-journeys-many.true c.refusal.ensures
 
 pub write-requires : goal.write-requires
 write-requires c =
@@ -17,4 +17,4 @@ write-requires c =
 
 pub returns : goal.returns
 returns c =
-    fits_laid _ c.args.journeys.now _ c.count-many.result c.answered-2.result c.count-many.ensures.1 c.if-journeys-many.false c.answered-2.ensures c.write.ensures
+    fits_laid _ c.args.journeys.now _ c.count-many.result c.done.result c.count-many.ensures.1 c.if-journeys-many.false c.done.ensures c.write.ensures

@@ -1,7 +1,7 @@
 -- What holds at each turn of `sampling::keep_many`.
 -- Assumes nothing.
 use mathlib.Core.Path.{◌≡◌}
-use Prim.Native.Nat.{◌+◌, ◌*◌, ◌-◌, ◌≤◌}
+use Prim.Native.Nat.{◌+◌, ◌*◌}
 use lib.ListN.{length, drop}
 use Rattle.study.specs.Study.{Study}
 use Rattle.sampling.specs.Once.{CountedOnce}
@@ -10,9 +10,6 @@ use Rattle.sampling.proofs.keep_many.Given as goal
 
 abbrev pub invariant-loop-k : goal.invariant-loop-k
 invariant-loop-k l =
-    (l.k ≤ l.e.seeds) × (length l.room ≡ 512) × (length l.report ≡ length l.initial.report)
+    (length l.room ≡ 512) × (length l.report ≡ length l.initial.report)
     × (drop (5 + l.e.actions * l.e.total) l.report ≡ drop (5 + l.e.actions * l.e.total) l.initial.report)
     × ((t : Study) → CountedOnce l.file l.e l.acts l.vars l.steps l.wants t → FirstTaken t l.e l.initial.room → KeptAll t l.e.first l.k l.e.total 5 l.e.actions l.report)
-
-abbrev pub decreases-loop-k : goal.decreases-loop-k
-decreases-loop-k l = l.e.seeds - l.k

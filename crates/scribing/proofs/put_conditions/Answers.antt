@@ -1,41 +1,25 @@
--- `scribing::put_conditions` meets its contract: at each turn the bytes from the next condition on are left to put.
+-- `scribing::put_conditions` meets its contract: at each turn the bytes of one condition are put.
 -- Assumes nothing.
-use mathlib.Core.Path.{refl}
-use Prim.Native.Nat.{◌-◌}
+use Prim.Native.Nat.{◌*◌}
 use native.Mathlib.Omega.{arith}
 use Rattle.spelling.specs.Spelling.{spelled}
 use Rattle.spelling.specs.Lent.{conditions_in}
-use Rattle.putting.proofs.Putting.{all_left, first_fits, first_put, none_left}
+use Rattle.spelling.proofs.Chunks.{chunk_at}
+use Rattle.putting.proofs.Putting.{first_fits, first_put, none_left}
 use Rattle.putting.proofs.Entries.{nothing_left, condition_first}
 use Rattle.scribing.proofs.put_conditions.Goals as goal
 
-pub loop-i-init : goal.loop-i-init
-loop-i-init c = (omega arith, (refl, all_left _ _ _))
+pub put-at-requires : goal.put-at-requires
+put-at-requires c =
+    let pairs = c.as_chunks.ensures in
+    (omega arith, first_fits c.loop-var.invariant (condition_first (chunk_at 2 _ pairs.front pairs.front_len _ c.loop-var-test.true)) c.requires.1)
 
-pub bounds-conditions-i : goal.bounds-conditions-i
-bounds-conditions-i c = omega arith
-
-pub overflow_add-i : goal.overflow_add-i
-overflow_add-i c = omega arith
-
-pub bounds-conditions-i-in-loop-i : goal.bounds-conditions-i-in-loop-i
-bounds-conditions-i-in-loop-i c = omega arith
-
-pub put_three-at-requires : goal.put_three-at-requires
-put_three-at-requires c =
-    first_fits c.loop-i.invariant.1.1 (condition_first c.args.conditions.now c.loop-i.i (omega arith)) c.requires.1
-
-pub overflow_add-i-in-loop-i : goal.overflow_add-i-in-loop-i
-overflow_add-i-in-loop-i c = omega arith
-
-pub loop-i-smaller : goal.loop-i-smaller
-loop-i-smaller c = omega arith
-
-pub loop-i-preserved : goal.loop-i-preserved
-loop-i-preserved c =
-    (omega arith, (omega arith, first_put c.loop-i.invariant.1.1 (condition_first c.args.conditions.now c.loop-i.i (omega arith)) c.put_three-at.ensures))
+pub loop-var-preserved : goal.loop-var-preserved
+loop-var-preserved c =
+    let pairs = c.as_chunks.ensures in
+    first_put c.loop-var.invariant (condition_first (chunk_at 2 _ pairs.front pairs.front_len _ c.loop-var-test.true)) c.put-at.ensures
 
 pub returns : goal.returns
 unfolding spelled conditions_in
 returns c =
-    none_left (rw (nothing_left c.args.conditions.now c.loop-i.i (omega arith)) at c.loop-i.invariant.1.1)
+    none_left (rw (nothing_left c.args.conditions.now (2 * c.loop-var.var-index) (omega arith)) at c.loop-var.invariant)

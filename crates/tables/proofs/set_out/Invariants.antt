@@ -1,11 +1,7 @@
 -- What holds at each turn of `tables::set_out`.
 -- Assumes nothing.
-use Prim.Native.Nat.{◌-◌, ◌≤◌}
 use Rattle.tables.specs.Rows.{start_column, Begins}
 use Rattle.tables.proofs.set_out.Given as goal
 
 abbrev pub invariant-loop-v : goal.invariant-loop-v
-invariant-loop-v l = (l.v ≤ l.n) × Begins l.v (start_column l.vars) l.state
-
-abbrev pub decreases-loop-v : goal.decreases-loop-v
-decreases-loop-v l = l.n - l.v
+invariant-loop-v l = Begins l.v (start_column l.vars) l.state

@@ -1,7 +1,6 @@
 -- What holds at each turn of `tasking::enter_tasks`.
 -- Assumes nothing.
 use mathlib.Core.Path.{◌≡◌}
-use Prim.Native.Nat.{◌+◌, ◌*◌, ◌-◌, ◌≤◌}
 use lib.ListN.{length}
 use Rattle.tables.specs.Rows.{count_column, start_column, goal_column}
 use Rattle.tasking.proofs.Tasks.{Partly}
@@ -9,8 +8,5 @@ use Rattle.tasking.proofs.enter_tasks.Given as goal
 
 abbrev pub invariant-loop-v : goal.invariant-loop-v
 invariant-loop-v l =
-    (l.v ≤ l.n) × (l.at ≡ l.place + 4 * l.v) × (length l.vars ≡ 32) × (count_column l.vars ≡ count_column l.initial.vars)
+    (length l.vars ≡ 32) × (count_column l.vars ≡ count_column l.initial.vars)
     × Partly l.file l.place l.v (start_column l.vars) (goal_column l.vars)
-
-abbrev pub decreases-loop-v : goal.decreases-loop-v
-decreases-loop-v l = l.n - l.v

@@ -2,7 +2,6 @@
 -- Assumes nothing.
 use mathlib.Core.Path.{refl, sym, ◌∙◌}
 use mathlib.Core.List.{append-nil}
-use Prim.Native.Nat.{◌-◌}
 use native.Mathlib.Omega.{arith}
 use lib.ListN.{length}
 use Rattle.tables.specs.Rows.{var_column, pre_column, post_column}
@@ -13,27 +12,21 @@ use Rattle.telling.proofs.plan.Goals as goal
 pub loop-k-init : goal.loop-k-init
 unfolding step_lines
 loop-k-init c =
-    (omega arith, (omega arith, (refl, c.first-at.ensures.1 ∙ sym (append-nil _))))
-
-pub action_at-a-requires : goal.action_at-a-requires
-action_at-a-requires c = c.wide-action.ensures.1
+    (omega arith, (refl, c.first-at.ensures.1 ∙ sym (append-nil _)))
 
 pub step-at-requires : goal.step-at-requires
-step-at-requires c = (omega arith, omega (arith, c.wide-action.ensures.1), omega (arith, c.first-at.auto.out))
+step-at-requires c = (omega arith, omega arith, omega (arith, c.first-at.auto.out))
 
 pub loop-k-preserved : goal.loop-k-preserved
 loop-k-preserved c =
     let shown = shown_in (var_column c.args.acts.now) (pre_column c.args.acts.now) (post_column c.args.acts.now) in
     let list = c.args.list.now in
     let opened = c.action_at-a.ensures in
-    let said = rw (opened.var, opened.pre, opened.post, c.wide-action.ensures.0) at c.step-at.ensures.1.text in (
+    let said = rw (opened.var, opened.pre, opened.post, c.from-action.ensures) at c.step-at.ensures.1.text in (
       omega arith,
       (
-        omega arith,
-        (
-          c.step-at.auto.out ∙ c.loop-k.invariant.1.1.0,
-          text_more shown (first_line (length list)) list c.loop-k.k (omega arith) said c.loop-k.invariant.1.1.1,
-        ),
+        c.step-at.auto.out ∙ c.loop-k.invariant.1.0,
+        text_more shown (first_line (length list)) list c.loop-k.k (omega arith) said c.loop-k.invariant.1.1,
       ),
     )
 
@@ -41,4 +34,4 @@ pub returns : goal.returns
 returns c =
     let list = c.args.list.now in
     let shown = shown_in (var_column c.args.acts.now) (pre_column c.args.acts.now) (post_column c.args.acts.now) in
-    (omega arith, text_all shown list c.loop-k.k (omega arith) c.loop-k.invariant.1.1.1)
+    (omega arith, text_all shown list c.loop-k.k (omega arith) c.loop-k.invariant.1.1)

@@ -2,7 +2,7 @@
 -- Assumes nothing.
 use mathlib.Core.Path.{◌≡◌}
 use mathlib.Core.List.{◌++◌}
-use Prim.Native.Nat.{◌+◌, ◌-◌, ◌*◌, ◌≤◌}
+use Prim.Native.Nat.{◌+◌, ◌*◌, ◌≤◌}
 use lib.ListN.{length, take}
 use Rattle.tables.specs.Rows.{var_column, pre_column, post_column}
 use Rattle.telling.specs.Text.{first_line, step_lines, shown_in}
@@ -10,10 +10,6 @@ use Rattle.telling.proofs.plan.Given as goal
 
 abbrev pub invariant-loop-k : goal.invariant-loop-k
 invariant-loop-k l =
-    (l.k ≤ length l.list)
-    × ((l.at ≤ 9 + 20 * l.k)
+    (l.at ≤ 9 + 20 * l.k)
     × ((length l.out ≡ length l.initial.out)
-    × (take l.at l.out ≡ first_line (length l.list) ++ step_lines (shown_in (var_column l.acts) (pre_column l.acts) (post_column l.acts)) 0 (take l.k l.list))))
-
-abbrev pub decreases-loop-k : goal.decreases-loop-k
-decreases-loop-k l = length l.list - l.k
+    × (take l.at l.out ≡ first_line (length l.list) ++ step_lines (shown_in (var_column l.acts) (pre_column l.acts) (post_column l.acts)) 0 (take l.k l.list)))

@@ -1,18 +1,11 @@
 -- `tying::gather_all` meets its contract: each turn closes the word of one entry more.
 -- Assumes nothing.
-use Prim.Native.Nat.{◌-◌}
 use native.Mathlib.Omega.{arith}
 use Rattle.tying.proofs.Closing.{closing_begins, closing_on, closing_ends}
 use Rattle.tying.proofs.gather_all.Goals as goal
 
 pub loop-k-init : goal.loop-k-init
-loop-k-init c = (omega arith, closing_begins c.args.room.now c.args.words.now c.requires.2)
-
-pub overflow_add-y : goal.overflow_add-y
-overflow_add-y c = omega (arith, c.requires.0)
-
-pub bounds-room-k : goal.bounds-room-k
-bounds-room-k c = omega (arith, c.requires.0)
+loop-k-init c = closing_begins c.args.room.now c.args.words.now c.requires.2
 
 pub offset_bounds-words-y : goal.offset_bounds-words-y
 offset_bounds-words-y c = omega (arith, c.requires.3.low c.loop-k.k (omega arith))
@@ -27,9 +20,7 @@ pub bounds-words-y-in-loop-k : goal.bounds-words-y-in-loop-k
 bounds-words-y-in-loop-k c = omega (arith, c.requires.3.low c.loop-k.k (omega arith))
 
 pub loop-k-preserved : goal.loop-k-preserved
-loop-k-preserved c =
-    (omega arith, closing_on c.requires.3 c.loop-k.invariant.1 (omega arith) c.gathered.ensures)
+loop-k-preserved c = closing_on c.requires.3 c.loop-k.invariant (omega arith) c.gathered.ensures
 
 pub returns : goal.returns
-returns c =
-    closing_ends c.requires.3 c.loop-k.invariant.1 (omega arith)
+returns c = closing_ends c.requires.3 c.loop-k.invariant (omega arith)

@@ -1,11 +1,7 @@
 -- What holds at each turn of `tying::gather_all`.
 -- Assumes nothing.
-use Prim.Native.Nat.{◌-◌, ◌≤◌}
 use Rattle.tying.proofs.Closing.{ClosedTo}
 use Rattle.tying.proofs.gather_all.Given as goal
 
 abbrev pub invariant-loop-k : goal.invariant-loop-k
-invariant-loop-k l = (l.k ≤ l.total) × ClosedTo l.room l.initial.words l.words l.k
-
-abbrev pub decreases-loop-k : goal.decreases-loop-k
-decreases-loop-k l = l.total - l.k
+invariant-loop-k l = ClosedTo l.room l.initial.words l.words l.k

@@ -19,8 +19,8 @@ returns-in_default c =
 pub report_ordered-requires : goal.report_ordered-requires
 report_ordered-requires c =
     let (t, entered) = c.requires.3 in
-    (c.requires.0, c.requires.1, c.requires.2, (t, entered_once entered (rw c.in-Members.is at (c.order_by_action-found.ensures.orders_by_action t (entered_orderable entered) (all_zeros 64)))))
+    (c.requires.0, c.requires.1, c.requires.2, (t, entered_once entered (rw c.in-Ok.is at (c.order_by_action-found.ensures.orders_by_action t (entered_orderable entered) (all_zeros 64)))))
 
 pub returns : goal.returns
 returns c =
-    λ t entered. c.report_ordered.ensures t (entered_once entered (rw c.in-Members.is at (c.order_by_action-found.ensures.orders_by_action t (entered_orderable entered) (all_zeros 64))))
+    λ t entered. c.report_ordered.ensures t (entered_once entered (rw c.in-Ok.is at (c.order_by_action-found.ensures.orders_by_action t (entered_orderable entered) (all_zeros 64))))

@@ -20,7 +20,7 @@ returns-in_default c t x known =
 pub report_many-requires : goal.report_many-requires
 report_many-requires c =
     let (t, x, known) = c.requires.5 in
-    let walked = rw c.in-All.is at (known_walked known (c.walk_all-walked.ensures.walks_all t)) in (
+    let walked = rw c.in-Ok.is at (known_walked known (c.walk_all-walked.ensures.walks_all t)) in (
       c.requires.0,
       record { low = c.requires.1; high = c.requires.4; some = c.requires.2; few = c.requires.3 },
       c.if-actions-gt-FEW.true,
@@ -29,13 +29,13 @@ report_many-requires c =
 
 pub returns-then-actions-gt-FEW : goal.returns-then-actions-gt-FEW
 returns-then-actions-gt-FEW c t x known =
-    let walked = rw c.in-All.is at (known_walked known (c.walk_all-walked.ensures.walks_all t)) in
+    let walked = rw c.in-Ok.is at (known_walked known (c.walk_all-walked.ensures.walks_all t)) in
     c.report_many.ensures t (known_entered _ known walked)
 
 pub report_few-requires : goal.report_few-requires
 report_few-requires c =
     let (t, x, known) = c.requires.5 in
-    let walked = rw c.in-All.is at (known_walked known (c.walk_all-walked.ensures.walks_all t)) in (
+    let walked = rw c.in-Ok.is at (known_walked known (c.walk_all-walked.ensures.walks_all t)) in (
       c.requires.0,
       record { low = c.requires.1; high = c.requires.4; some = c.requires.2; few = c.requires.3 },
       omega (arith, c.if-actions-gt-FEW.false),
@@ -44,5 +44,5 @@ report_few-requires c =
 
 pub returns : goal.returns
 returns c t x known =
-    let walked = rw c.in-All.is at (known_walked known (c.walk_all-walked.ensures.walks_all t)) in
+    let walked = rw c.in-Ok.is at (known_walked known (c.walk_all-walked.ensures.walks_all t)) in
     c.report_few.ensures t (known_entered _ known walked)

@@ -19,11 +19,11 @@ returns-in_default c =
 pub report_counted-requires : goal.report_counted-requires
 report_counted-requires c =
     let (t, entered) = c.requires.3 in
-    let met = rw c.in-All.is at (c.want_all-met.ensures.wants_all t (entered_wishes entered) (entered_rowed entered)) in
+    let met = rw c.in-Ok.is at (c.want_all-met.ensures.wants_all t (entered_wishes entered) (entered_rowed entered)) in
     (c.requires.0, c.want_all-met.ensures.wants_len, c.requires.1, c.requires.2, (t, entered_met entered _ met))
 
 pub returns : goal.returns
 returns c =
     λ t entered.
-    let met = rw c.in-All.is at (c.want_all-met.ensures.wants_all t (entered_wishes entered) (entered_rowed entered)) in
+    let met = rw c.in-Ok.is at (c.want_all-met.ensures.wants_all t (entered_wishes entered) (entered_rowed entered)) in
     c.report_counted.ensures t (entered_met entered _ met)

@@ -11,24 +11,24 @@ pub take_few_by-taken-requires : goal.take_few_by-taken-requires
 take_few_by-taken-requires c =
     (c.requires.0, c.requires.2, c.requires.1.low, omega (arith, c.requires.1.high, c.requires.1.some), c.requires.3)
 
-pub judge_first-first-requires : goal.judge_first-first-requires
-judge_first-first-requires c =
+pub judge_first-requires : goal.judge_first-requires
+judge_first-requires c =
     let (t, once) = c.requires.3 in
     (c.requires.1.few, figures_few once.orderly once.actions)
 
 pub count_few-requires : goal.count_few-requires
 count_few-requires c =
     let (t, once) = c.requires.3 in
-    let judged = rw c.in-Plans.is at (c.judge_first-first.ensures t _ c.requires.1 once.actions record { so = c.take_few_by-taken.ensures.taken t once; within = c.take_few_by-taken.ensures.upper_bound.0; sized = c.take_few_by-taken.ensures.upper_bound.1 }) in
+    let judged = rw c.in-Continue.is at (c.judge_first.ensures t _ c.requires.1 once.actions record { so = c.take_few_by-taken.ensures.taken t once; within = c.take_few_by-taken.ensures.upper_bound.0; sized = c.take_few_by-taken.ensures.upper_bound.1 }) in
     (c.take_few_by-taken.ensures.upper_bound.1, c.requires.1, c.requires.2, omega (arith, judged.1, judged.2, ap length judged.0), (t, once, judged.3))
 
-pub returns-in-Settles : goal.returns-in-Settles
-returns-in-Settles c =
-    λ t once. rw c.in-Settles.is at (c.judge_first-first.ensures t _ c.requires.1 once.actions record { so = c.take_few_by-taken.ensures.taken t once; within = c.take_few_by-taken.ensures.upper_bound.0; sized = c.take_few_by-taken.ensures.upper_bound.1 })
+pub returns-in-Break : goal.returns-in-Break
+returns-in-Break c =
+    λ t once. rw c.in-Break.is at (c.judge_first.ensures t _ c.requires.1 once.actions record { so = c.take_few_by-taken.ensures.taken t once; within = c.take_few_by-taken.ensures.upper_bound.0; sized = c.take_few_by-taken.ensures.upper_bound.1 })
 
-pub returns-in-Plans : goal.returns-in-Plans
-returns-in-Plans c =
+pub returns-in-Continue : goal.returns-in-Continue
+returns-in-Continue c =
     λ t once.
-    let judged = rw c.in-Plans.is at (c.judge_first-first.ensures t _ c.requires.1 once.actions record { so = c.take_few_by-taken.ensures.taken t once; within = c.take_few_by-taken.ensures.upper_bound.0; sized = c.take_few_by-taken.ensures.upper_bound.1 }) in
+    let judged = rw c.in-Continue.is at (c.judge_first.ensures t _ c.requires.1 once.actions record { so = c.take_few_by-taken.ensures.taken t once; within = c.take_few_by-taken.ensures.upper_bound.0; sized = c.take_few_by-taken.ensures.upper_bound.1 }) in
     reports_plans once.actions c.requires.1.some (omega (arith, judged.1, judged.2))
-    (rw judged.0 at (c.count_few.ensures t once judged.3)) (rw judged.1 at c.numbers.ensures)
+    (rw judged.0 at (c.count_few.ensures t once judged.3)) (rw judged.1 at c.done.ensures)

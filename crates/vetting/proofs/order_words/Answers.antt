@@ -13,7 +13,6 @@ use Rattle.hanging.specs.Hanging.{InWord, TakenByName}
 use Rattle.walks.specs.Walks.{Met}
 use Rattle.tables.specs.Tables.{ActionTables}
 use Rattle.ordering.specs.Ordering.{Ordered, Orderable, OrdersAll}
-use Rattle.handing.specs.Answers.{not_ordered}
 use Rattle.handing.specs.Handing.{Taken}
 use Rattle.handing.proofs.Outcomes.{fewer_is_ring, fits}
 use Rattle.stages.specs.Whole.{Walking, WalkingIn, Orderly}
@@ -109,14 +108,14 @@ order_all-found-requires c =
       (t, orderable_by_number c.requires.2 walking),
     )
 
-pub returns-in_default : goal.returns-in_default
-returns-in_default c =
-    let e = c.in_default.is in
+pub returns-in-Err : goal.returns-in-Err
+returns-in-Err c =
+    let e = c.in-Err.is in
     record {
       setters_len = c.requires.3;
       readies = λ t v walking chart.
-          let off = rw e at (orders_of (goal.at.returns-in_default c).After-order_all-found t v walking) in
-          rw (c.unordered.ensures ∙ ap not_ordered e) (off_walk_lem (rowed_walks walking.variables walking.rowed) off);
+          let off = rw e at (orders_of (goal.at.returns-in-Err c).After-order_all-found t v walking) in
+          rw c.unmet.ensures (off_walk_lem (rowed_walks walking.variables walking.rowed) off);
     }
 
 pub number_all-requires-2 : goal.number_all-requires-2
@@ -125,7 +124,7 @@ number_all-requires-2 c = omega (arith, c.requires.3)
 pub take_looking-taken-requires : goal.take_looking-taken-requires
 take_looking-taken-requires c =
     let (t, v, walking) = c.requires.4 in
-    let told = rw c.in-Members.is at (orders_of (goal.at.take_looking-taken-requires c).After-order_all-found t v walking) in (
+    let told = rw c.in-Ok.is at (orders_of (goal.at.take_looking-taken-requires c).After-order_all-found t v walking) in (
       all_few walking,
       c.number_all-2.ensures.0 ∙ c.requires.3,
       counted c.requires.2 walking told (names_turned (goal.at.take_looking-taken-requires c).After-number_all-2),
@@ -137,9 +136,9 @@ returns-then-taken-total c =
     record {
       setters_len = sized;
       readies = λ t v walking chart.
-          let told = rw c.in-Members.is at (orders_of (goal.at.returns-then-taken-total c).After-order_all-found t v walking) in
+          let told = rw c.in-Ok.is at (orders_of (goal.at.returns-then-taken-total c).After-order_all-found t v walking) in
           let taken = taken_of c.requires.2 walking told (names_turned (goal.at.returns-then-taken-total c).After-number_all-2) c.take_looking-taken.ensures.taken_by_name in
-          rw c.numbers.ensures
+          rw c.refusal.ensures
           (refused_charts walking.lawful walking.ranked (replicate 256 0) refl
           (fewer_is_ring taken sized within (replicate 256 0) (omega arith)) chart (λ e. omega (arith, e)));
     }
@@ -150,7 +149,7 @@ returns c =
     record {
       setters_len = sized;
       readies = λ t v walking.
-          let told = rw c.in-Members.is at (orders_of (goal.at.returns c).After-order_all-found t v walking) in
+          let told = rw c.in-Ok.is at (orders_of (goal.at.returns c).After-order_all-found t v walking) in
           let turned = names_turned (goal.at.returns c).After-number_all-2 in
           let taken = taken_of c.requires.2 walking told turned c.take_looking-taken.ensures.taken_by_name in
           words_of c.requires.2 walking told.1 (counted c.requires.2 walking told turned) taken sized within (omega arith);

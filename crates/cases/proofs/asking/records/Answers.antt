@@ -1,6 +1,6 @@
 -- `cases::asking::records` is safe and ends: what was found is the record at the place, and each record lies behind the one before it.
 -- Assumes nothing.
-use Rattle.std.proofs.Common.{◌-◌, sym, ap, ◌∙◌, arith}
+use Rattle.std.proofs.Common.{sym, ap, ◌∙◌, arith}
 use Rattle.records.proofs.Laws.{there_lies}
 use Rattle.reader.specs.Reading.{behind}
 use Rattle.cases.proofs.asking.records.Goals as goal

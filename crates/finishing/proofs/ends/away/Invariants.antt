@@ -2,7 +2,6 @@
 -- Assumes nothing.
 use mathlib.Core.Path.{◌≡◌}
 use mathlib.Core.List.{List}
-use Prim.Native.Nat.{◌-◌, ◌≤◌}
 use lib.ListN.{drop}
 use Rattle.study.specs.Study.{Task}
 use Rattle.tables.specs.Tables.{HoldsTasks}
@@ -12,7 +11,4 @@ use Rattle.finishing.proofs.ends.away.Given as goal
 
 abbrev pub invariant-loop-v : goal.invariant-loop-v
 invariant-loop-v l =
-    (l.v ≤ l.n) × ((tasks : List Task) → HoldsTasks l.n (start_column l.vars) (goal_column l.vars) tasks → away l.state l.v (drop l.v tasks) ≡ away l.state 0 tasks)
-
-abbrev pub decreases-loop-v : goal.decreases-loop-v
-decreases-loop-v l = l.n - l.v
+    (tasks : List Task) → HoldsTasks l.n (start_column l.vars) (goal_column l.vars) tasks → away l.state l.v (drop l.v tasks) ≡ away l.state 0 tasks

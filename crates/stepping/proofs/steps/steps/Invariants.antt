@@ -1,8 +1,6 @@
 -- What holds at each turn of `stepping::steps::steps`.
 -- Assumes nothing.
 use mathlib.Core.List.{[]}
-use Prim.Native.Nat.{◌-◌, ◌≤◌}
-use lib.ListN.{length}
 use Rattle.study.specs.Study.{Study}
 use Rattle.barring.specs.Telling.{Ready}
 use Rattle.stepping.specs.Stepping.{Stage}
@@ -11,8 +9,4 @@ use Rattle.stepping.proofs.steps.steps.Given as goal
 
 abbrev pub invariant-loop-k : goal.invariant-loop-k
 invariant-loop-k l =
-    (l.k ≤ length l.plan) ×
-    ((t : Study) → Ready l.file l.actions l.acts t → Stage t [] l.initial.state l.initial.held → Halfway t l.plan l.initial.state l.k l.state l.held)
-
-abbrev pub decreases-loop-k : goal.decreases-loop-k
-decreases-loop-k l = length l.plan - l.k
+    (t : Study) → Ready l.file l.actions l.acts t → Stage t [] l.initial.state l.initial.held → Halfway t l.plan l.initial.state l.k l.state l.held

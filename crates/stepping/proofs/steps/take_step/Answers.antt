@@ -12,7 +12,7 @@ use borrow.Author.Tests.{not-true, not-false}
 use Rattle.study.specs.Study.{Study, action_at}
 use Rattle.replays.specs.Replay.{lacks}
 use Rattle.tables.specs.Rows.{out_column}
-use Rattle.barring.specs.declared.Stance.TheVariants.{Idle}
+use Rattle.std.specs.Prelude.{None}
 use Rattle.barring.specs.Stances.{stance_of}
 use Rattle.barring.specs.Telling.{Ready, Tells}
 use Rattle.stepping.proofs.Turns.{mark_in_range, takes_14, takes_20, takes_15, takes_16, takes_on}
@@ -40,27 +40,27 @@ module _ (c : After-wide-v) where
 
   free :
       {t : Study} → Ready c.args.file.now c.args.actions c.args.acts.now t
-      → Idle ≡ stance_of (lacks c.args.state.now (action_at t.actions c.args.entry))
+      → None ≡ stance_of (lacks c.args.state.now (action_at t.actions c.args.entry))
   free r = sym c.in_default.is ∙ c.barred.ensures _ ((r.action c.args.entry ((let there_here : c.args.entry < c.args.actions = c.if-actions-i.false in there_here)) c.action_at-act.ensures))
 
 pub returns-then-actions-i : goal.returns-then-actions-i
 returns-then-actions-i c =
     let a = c.args in
-    λ t past r s. rw c.stops.ensures (takes_14 r s a.k a.entry c.if-actions-i.true)
+    λ t past r s. rw c.refusal.ensures (takes_14 r s a.k a.entry c.if-actions-i.true)
 
 pub returns-then-not-in_force : goal.returns-then-not-in_force
 returns-then-not-in_force c =
     let a = c.args in
-    λ t past r s. rw c.stops-then-not-in_force.ensures (takes_20 r s a.k a.entry c.if-actions-i.false (sym c.in_force.ensures ∙ not-true _ (ap not c.if-not-in_force.true)))
+    λ t past r s. rw c.refusal-then-not-in_force.ensures (takes_20 r s a.k a.entry c.if-actions-i.false (sym c.in_force.ensures ∙ not-true _ (ap not c.if-not-in_force.true)))
 
 pub barred-requires : goal.barred-requires
 barred-requires c = (_, told c c.requires.1)
 
-pub returns-in-Waits : goal.returns-in-Waits
-returns-in-Waits c =
+pub returns-in-Some : goal.returns-in-Some
+returns-in-Some c =
     let a = c.args in
     λ t past r s.
-    rw c.stops-in-Waits.ensures (takes_15 r s a.k a.entry (there (goal.at.returns-in-Waits c).After-action_at-act) (force (goal.at.returns-in-Waits c).After-action_at-act) (sym c.in-Waits.is ∙ c.barred.ensures _ (told (goal.at.returns-in-Waits c).After-action_at-act r)))
+    rw c.answer.ensures (takes_15 r s a.k a.entry (there (goal.at.returns-in-Some c).After-action_at-act) (force (goal.at.returns-in-Some c).After-action_at-act) (sym c.in-Some.is ∙ c.barred.ensures _ (told (goal.at.returns-in-Some c).After-action_at-act r)))
 
 pub bounds-held-v : goal.bounds-held-v
 bounds-held-v c = (in_range_lem (goal.at.bounds-held-v c).After-wide-v).0
@@ -72,7 +72,7 @@ pub returns-then-has : goal.returns-then-has
 returns-then-has c =
     let a = c.args in
     λ t past r s.
-    rw c.stops-then-has.ensures
+    rw c.answer-then-has.ensures
     (takes_16 r s a.k a.entry (there (goal.at.returns-then-has c).After-action_at-act) (force (goal.at.returns-then-has c).After-action_at-act) (free (goal.at.returns-then-has c).After-wide-v r) (told (goal.at.returns-then-has c).After-action_at-act r) c.wide-v.ensures.0 (sym c.has.ensures ∙ c.if-has.true))
 
 pub with-requires : goal.with-requires
