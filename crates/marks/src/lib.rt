@@ -17,7 +17,7 @@ pub fn with(word: u16, q: u8) -> u16
     requires { q < 16 }
     ensures { (j : ℕ) → bit result j ≡ (eqb q j || bit word j) }
 {
-    bits::mark(u64::from(word), q) as u16
+    word | (1u16 << q)
 }
 
 // Marks a value of a variable, and says whether it was not marked before.

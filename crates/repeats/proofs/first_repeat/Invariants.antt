@@ -1,17 +1,14 @@
--- What holds at each turn of `repeats::first_repeat`: the marks tell what the actions before the entry set, none of those repeats, and the entry's action stands at the place.
+-- What holds at each turn of `repeats::first_repeat`: the marks tell what the actions before the entry set, none of those repeats, and the entry's action stands behind them.
 -- Assumes nothing.
 use mathlib.Core.List.{List}
-use Prim.Native.Nat.{◌+◌, ◌*◌, ◌≤◌}
+use Prim.Native.Nat.{◌*◌}
 use Rattle.study.specs.Study.{Condition}
 use Rattle.spelling.specs.Lent.{actions_in}
-use Rattle.repeats.specs.Repeats.{Small}
+use Rattle.repeats.specs.Repeats.{Small, place_of}
 use Rattle.repeats.proofs.Looking.{Looked}
 use Rattle.repeats.proofs.first_repeat.Given as goal
 
-abbrev pub invariant-loop-var : goal.invariant-loop-var
-invariant-loop-var l = record {
-  near : l.place ≤ 30000 + 771 * l.var-index;
-  looked :
-      (conditions : List Condition) → Small (actions_in l.actions conditions)
-      → Looked l.situation l.front l.actions (actions_in l.actions conditions) l.marks l.place (5 * l.var-index);
-}
+abbrev pub invariant-loop-k : goal.invariant-loop-k
+invariant-loop-k l =
+    (conditions : List Condition) → Small (actions_in l.actions conditions)
+    → Looked l.situation l.front l.actions (actions_in l.actions conditions) l.marks (place_of l.front l.entries l.k) (5 * l.k)
