@@ -1,10 +1,11 @@
 -- The facts that an explanation tells, a line for each: as the code has it, and as text.
 -- Assumes nothing.
-use Rattle.std.specs.Prelude.{ℕ, ◌+◌, List, [], ◌∷◌, ◌++◌, map}
+use Rattle.std.specs.Prelude.{ℕ, List, [], ◌∷◌, ◌++◌, map, get_or}
 use Rattle.facts.specs.declared.Fact.{Fact as FactRow}
 use Rattle.facts.specs.declared.Fact.TheVariants.{Goal, Set, Unset, Round, Wants, Start, Walk, Ring, After}
 use Rattle.facts.specs.declared.Rule.{Rule as RuleRow}
 use Rattle.facts.specs.declared.Rule.TheVariants.{Next, Sets, Leaves}
+use Rattle.facts.specs.Rows.{rule_in, bytes_in}
 use Rattle.telling.specs.Text.{spaced, line_end}
 
 -- the rules of 'comes before': (a), (b), (c)
@@ -49,40 +50,23 @@ row_of (after r k i v q) = After (rule_row r) k i v q
 abbrev pub rows_of : List Fact → List FactRow
 rows_of facts = map row_of facts
 
--- ---- in numbers: which kind of fact it is
+-- ---- in rows of numbers: the kind, and four numbers
 
 abbrev pub rule_number : Rule → ℕ
-rule_number next = 0
-rule_number sets = 1
-rule_number leaves = 2
+rule_number r = rule_in (rule_row r)
+
+abbrev pub bytes_of : Fact → List ℕ
+bytes_of f = bytes_in (row_of f)
+
+abbrev pub byte_rows : List Fact → List (List ℕ)
+byte_rows facts = map bytes_of facts
 
 abbrev pub kind_of : Fact → ℕ
-kind_of (goal v q) = 0
-kind_of (set v q i p) = 1
-kind_of (unset v q) = 2
-kind_of (round v q) = 3
-kind_of (wants i v q) = 4
-kind_of (start v q) = 5
-kind_of (walk v i p q) = 6
-kind_of (ring r i j v q) = 7 + rule_number r
-kind_of (after r k i v q) = 10 + rule_number r
+kind_of f = get_or (bytes_of f) 0 0
 
 -- .. and of a row
-abbrev pub rule_in : RuleRow → ℕ
-rule_in Next = 0
-rule_in Sets = 1
-rule_in Leaves = 2
-
 abbrev pub kind_in : FactRow → ℕ
-kind_in (Goal v q) = 0
-kind_in (Set v q i p) = 1
-kind_in (Unset v q) = 2
-kind_in (Round v q) = 3
-kind_in (Wants i v q) = 4
-kind_in (Start v q) = 5
-kind_in (Walk v i p q) = 6
-kind_in (Ring r i j v q) = 7 + rule_in r
-kind_in (After r k i v q) = 10 + rule_in r
+kind_in row = get_or (bytes_in row) 0 0
 
 -- ---- as text: words, and numbers after them
 

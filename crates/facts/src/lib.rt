@@ -1,7 +1,8 @@
 // The facts of an explanation.
 #![tactic(auto)]
 
-ghost use Rattle.std.specs.Prelude.{◌≡◌, [], ◌∷◌, ◌++◌, ◌+◌, ◌<◌, length, take};
+ghost use Rattle.std.specs.Prelude.{◌≡◌, List, ℕ, [], ◌∷◌, ◌++◌, ◌+◌, ◌<◌, length, take};
+ghost use Rattle.facts.specs.Rows.{bytes_in};
 
 // The rules by which one action comes directly before another.
 #[derive(Clone, Copy, PartialEq, Eq)]
@@ -81,9 +82,70 @@ pub const NONE: Fact = Fact::Goal {
     value: 0,
 };
 
-// Puts one fact behind n others, and answers how many there are now. There is room for 288: a step of a plan has one reason
-// by the first rule, 31 by the second and 256 by the third at most.
-pub fn add(facts: &mut [Fact; 288], n: usize, fact: Fact) -> usize
+// What a line of an explanation tells: a fact, or the row of five bytes that stands for one.
+pub trait Row: Copy {
+    // The fact's kind, and four numbers, of which the kind says how many count.
+    ghost bytes: { Self → List ℕ };
+
+    fn row(self) -> [u8; 5]
+        ensures { result ≡ bytes self };
+}
+
+impl Row for [u8; 5] {
+    ghost bytes = { λ row. row };
+
+    fn row(self) -> [u8; 5] {
+        self
+    }
+}
+
+impl Row for Fact {
+    ghost bytes = { bytes_in };
+
+    fn row(self) -> [u8; 5] {
+        match self {
+            Fact::Goal { variable, value } => [0, variable, value, 0, 0],
+            Fact::Set {
+                variable,
+                value,
+                action,
+                before,
+            } => [1, variable, value, action, before],
+            Fact::Unset { variable, value } => [2, variable, value, 0, 0],
+            Fact::Round { variable, value } => [3, variable, value, 0, 0],
+            Fact::Wants {
+                action,
+                variable,
+                value,
+            } => [4, action, variable, value, 0],
+            Fact::Start { variable, value } => [5, variable, value, 0, 0],
+            Fact::Walk {
+                variable,
+                action,
+                from,
+                to,
+            } => [6, variable, action, from, to],
+            Fact::Ring {
+                rule,
+                action,
+                next,
+                variable,
+                value,
+            } => [7 + rule as u8, action, next, variable, value],
+            Fact::After {
+                rule,
+                step,
+                action,
+                variable,
+                value,
+            } => [10 + rule as u8, step, action, variable, value],
+        }
+    }
+}
+
+// Puts one fact, or one row, behind n others, and answers how many there are now. There is room for 288: a step of a plan has one
+// reason by the first rule, 31 by the second and 256 by the third at most.
+pub fn add<F: Row>(facts: &mut [F; 288], n: usize, fact: F) -> usize
     requires { (n < 288) × (length facts.old ≡ 288) }
     ensures value { (result ≡ n + 1) × (length facts.new ≡ 288) }
     ensures facts_after { take result facts.new ≡ take n facts.old ++ (fact ∷ []) }

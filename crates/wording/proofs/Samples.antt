@@ -5,7 +5,7 @@ use mathlib.Core.List.{List, [], ◌∷◌}
 use Prim.Native.Nat.{ℕ}
 use lib.ListN.{length, get_or}
 use Rattle.facts.specs.declared.Fact.{Fact as FactRow}
-use Rattle.explained.specs.Facts.{Rule, next, sets, leaves, Fact, goal, set, unset, round, wants, start, walk, ring, after, rule_row, rule_number, rule_in, row_of, kind_of, kind_in, word_of, numbers_of}
+use Rattle.explained.specs.Facts.{next, sets, leaves, Fact, goal, set, unset, round, wants, start, walk, ring, after, row_of, bytes_of, kind_of, kind_in, word_of, numbers_of}
 
 -- a fact of each kind but the last
 abbrev pub samples : List Fact
@@ -16,24 +16,12 @@ samples =
 abbrev pub sample : ℕ → Fact
 sample kind = get_or samples kind (after leaves 0 0 0 0)
 
--- a fact and its row are of one kind
-same_kind : (f : Fact) → kind_of f ≡ kind_in (row_of f)
-same_kind (goal v q) = refl
-same_kind (set v q i p) = refl
-same_kind (unset v q) = refl
-same_kind (round v q) = refl
-same_kind (wants i v q) = refl
-same_kind (start v q) = refl
-same_kind (walk v i p q) = refl
-same_kind (ring next i j v q) = refl
-same_kind (ring sets i j v q) = refl
-same_kind (ring leaves i j v q) = refl
-same_kind (after next k i v q) = refl
-same_kind (after sets k i v q) = refl
-same_kind (after leaves k i v q) = refl
-
 pub kind_of_lem : (f : Fact) {row : FactRow} → row ≡ row_of f → kind_of f ≡ kind_in row
-kind_of_lem f e = rw e (same_kind f)
+kind_of_lem f e = rw e
+
+-- .. as bytes
+pub first_byte : (f : Fact) {row : List ℕ} → row ≡ bytes_of f → kind_of f ≡ get_or row 0 0
+first_byte f e = rw e
 
 record Alike (f g : Fact) : Type 0 where
   word : word_of f ≡ word_of g

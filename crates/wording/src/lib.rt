@@ -1,20 +1,43 @@
 // The lines of facts: a word or two, and the numbers that the fact names.
 #![tactic(auto)]
 
-ghost use Rattle.std.specs.Prelude.{◌≡◌, List, ◌++◌, ◌+◌, ◌*◌, ◌≤◌, length};
+ghost use Rattle.std.specs.Prelude.{◌≡◌, List, ◌++◌, ◌+◌, ◌*◌, ◌≤◌, length, map};
 ghost use Rattle.telling.specs.Text.{Appends, line_end};
-ghost use Rattle.explained.specs.Facts.{Fact as Facts·Fact, Rule as Facts·Rule, rule_row, rule_word, row_of, rows_of, all_spaced, fact_line, fact_lines};
+ghost use Rattle.explained.specs.Facts.{Fact, bytes_of, byte_rows, kind_of, word_of, numbers_of, all_spaced, fact_line, fact_lines};
 
-use facts::{Fact, Rule};
+use facts::Row;
 
-fn word(rule: Rule) -> &'static [u8]
-    ensures upper_bound { length result.now ≤ 6 }
-    ensures value { (r : Facts·Rule) → rule ≡ rule_row r → result.now ≡ rule_word r }
+// The words of a kind of fact.
+fn words(kind: u8) -> &'static [u8]
+    ensures upper_bound { length result.now ≤ 12 }
+    ensures value { (f : Fact) → kind_of f ≡ kind → result.now ≡ word_of f }
 {
-    match rule {
-        Rule::Next => b"next",
-        Rule::Sets => b"sets",
-        Rule::Leaves => b"leaves",
+    match kind {
+        0 => b"goal",
+        1 => b"set",
+        2 => b"unset",
+        3 => b"round",
+        4 => b"wants",
+        5 => b"start",
+        6 => b"walk",
+        7 => b"ring next",
+        8 => b"ring sets",
+        9 => b"ring leaves",
+        10 => b"after next",
+        11 => b"after sets",
+        _ => b"after leaves",
+    }
+}
+
+// How many numbers a fact of this kind names.
+fn many(kind: u8) -> usize
+    ensures upper_bound { result ≤ 4 }
+    ensures value { (f : Fact) → kind_of f ≡ kind → result ≡ length (numbers_of f) }
+{
+    match kind {
+        0 | 2 | 3 | 5 => 2,
+        4 => 3,
+        _ => 4,
     }
 }
 
@@ -31,66 +54,26 @@ fn tell(out: &mut [u8], at: usize, words: &[u8], numbers: &[u8]) -> usize
     telling::text::put(out, next, b"\n")
 }
 
-// One line, 29 bytes at most.
-fn line(fact: Fact, out: &mut [u8], at: usize) -> usize
+// One line, 29 bytes at most: the words, four numbers of three digits with a space before each, and the line's end.
+fn line(row: [u8; 5], out: &mut [u8], at: usize) -> usize
     requires { at + 29 ≤ length out.old }
     ensures upper_bound { (result ≤ at + 29) × (length out.new ≡ length out.old) }
-    ensures appends { (f : Facts·Fact) → fact ≡ row_of f → Appends out.old at (fact_line f) out.new result }
+    ensures appends { (f : Fact) → row ≡ bytes_of f → Appends out.old at (fact_line f) out.new result }
 {
-    match fact {
-        Fact::Goal { variable, value } => tell(out, at, b"goal", &[variable, value]),
-        Fact::Set {
-            variable,
-            value,
-            action,
-            before,
-        } => tell(out, at, b"set", &[variable, value, action, before]),
-        Fact::Unset { variable, value } => tell(out, at, b"unset", &[variable, value]),
-        Fact::Round { variable, value } => tell(out, at, b"round", &[variable, value]),
-        Fact::Wants {
-            action,
-            variable,
-            value,
-        } => tell(out, at, b"wants", &[action, variable, value]),
-        Fact::Start { variable, value } => tell(out, at, b"start", &[variable, value]),
-        Fact::Walk {
-            variable,
-            action,
-            from,
-            to,
-        } => tell(out, at, b"walk", &[variable, action, from, to]),
-        Fact::Ring {
-            rule,
-            action,
-            next,
-            variable,
-            value,
-        } => {
-            let begun = telling::text::put(out, at, b"ring ");
-            tell(out, begun, word(rule), &[action, next, variable, value])
-        }
-        Fact::After {
-            rule,
-            step,
-            action,
-            variable,
-            value,
-        } => {
-            let begun = telling::text::put(out, at, b"after ");
-            tell(out, begun, word(rule), &[step, action, variable, value])
-        }
-    }
+    let kind = row[0];
+    let n = many(kind);
+    tell(out, at, words(kind), &row[1..1 + n])
 }
 
-// The lines of facts, from a place on.
-pub fn lines(facts: &[Fact], out: &mut [u8], begin: usize) -> usize
+// The lines of facts, or of their rows, from a place on.
+pub fn lines<F: Row>(facts: &[F], out: &mut [u8], begin: usize) -> usize
     requires { begin + 29 * length facts.now ≤ length out.old }
     ensures upper_bound { (result ≤ begin + 29 * length facts.now) × (length out.new ≡ length out.old) }
-    ensures appends { (list : List Facts·Fact) → facts.now ≡ rows_of list → Appends out.old begin (fact_lines list) out.new result }
+    ensures appends { (list : List Fact) → map F.bytes facts.now ≡ byte_rows list → Appends out.old begin (fact_lines list) out.new result }
 {
     let mut at = begin;
     for fact in facts {
-        at = line(*fact, out, at);
+        at = line(fact.row(), out, at);
     }
     at
 }

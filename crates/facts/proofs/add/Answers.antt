@@ -7,4 +7,4 @@ use borrow.Author.Rules.{rules}
 use Rattle.facts.proofs.add.Goals as goal
 
 pub returns : goal.returns
-returns c = record { value = search rules; facts_after = rw add-one (take-suc-set c.args.facts.now c.args.n _ (omega arith)) }
+returns g c = record { value = search rules; facts_after = rw add-one (take-suc-set c.args.facts.now c.args.n _ (omega arith)) }

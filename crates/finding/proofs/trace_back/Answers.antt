@@ -57,7 +57,7 @@ pub holds-requires : goal.holds-requires
 holds-requires c = omega (arith, (backward c).low)
 
 pub add-requires : goal.add-requires
-add-requires c = has_room (goal.at.add-requires c).In-loop-turn
+add-requires c = (omega arith, has_room (goal.at.add-requires c).In-loop-turn)
 
 pub returns-then-holds : goal.returns-then-holds
 returns-then-holds c =
@@ -69,7 +69,7 @@ setter-found-requires c =
     (omega (arith, c.from.ensures, p.0), (backward (goal.at.setter-found-requires c).In-loop-turn).low, few_actions p.3.1)
 
 pub add-requires-in_default : goal.add-requires-in_default
-add-requires-in_default c = has_room (goal.at.add-requires-in_default c).In-loop-turn
+add-requires-in_default c = (omega arith, has_room (goal.at.add-requires-in_default c).In-loop-turn)
 
 pub returns-in_default : goal.returns-in_default
 returns-in_default c =
@@ -86,7 +86,7 @@ pub overflow_cast-set : goal.overflow_cast-set
 overflow_cast-set c = omega (arith, named-low (goal.at.overflow_cast-set c).In-Some)
 
 pub add-n-requires-in-loop-turn : goal.add-n-requires-in-loop-turn
-add-n-requires-in-loop-turn c = has_room (goal.at.add-n-requires-in-loop-turn c).In-loop-turn
+add-n-requires-in-loop-turn c = (omega arith, has_room (goal.at.add-n-requires-in-loop-turn c).In-loop-turn)
 
 pub with_bit-passed-requires : goal.with_bit-passed-requires
 with_bit-passed-requires c = omega (arith, (backward (goal.at.with_bit-passed-requires c).In-loop-turn).low)

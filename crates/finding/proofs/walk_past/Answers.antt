@@ -65,7 +65,7 @@ overflow_cast-walk c = omega (arith, named-low (goal.at.overflow_cast-walk c).El
 pub add-n-requires-in-loop-turn : goal.add-n-requires-in-loop-turn
 add-n-requires-in-loop-turn c =
     let f = following (goal.at.add-n-requires-in-loop-turn c).In-loop-turn in
-    (omega (arith, f.count), f.sized)
+    (omega arith, (omega (arith, f.count), f.sized))
 
 pub loop-turn-preserved : goal.loop-turn-preserved
 loop-turn-preserved c =

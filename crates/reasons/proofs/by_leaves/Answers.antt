@@ -12,7 +12,7 @@ loop-i-init c =
     begins c.requires.0 c.requires.1 c.requires.2 c.requires.3 (search rules) c.wanters_of-rest.ensures
 
 pub add-n-requires : goal.add-n-requires
-add-n-requires c = (has_room c.loop-i.invariant c.in-Some.ensures (omega arith), c.loop-i.invariant.size)
+add-n-requires c = (omega arith, (has_room c.loop-i.invariant c.in-Some.ensures (omega arith), c.loop-i.invariant.size))
 
 pub loop-i-smaller : goal.loop-i-smaller
 loop-i-smaller c =

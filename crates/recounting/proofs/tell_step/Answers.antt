@@ -6,6 +6,7 @@ use lib.ListN.{get_or}
 use lib.Seq.{length-take-le}
 use Rattle.explained.specs.Reasons.{reasons_of}
 use Rattle.telling.proofs.Placed.{then}
+use Rattle.wording.proofs.Told.{rows_told}
 use Rattle.recounting.proofs.tell_step.Goals as goal
 
 pub of_step-n-requires : goal.of_step-n-requires
@@ -22,6 +23,6 @@ returns c =
           let opened = rw c.wide-action.ensures.0 at c.action_at-act.ensures in
           let step = ready.step c.args.k c.requires.0 opened in
           let reasons = c.of_step-n.ensures.facts_after t _ _ ready.reasonable step in
-          let text = (then c.step-begin.ensures.1 (c.lines.ensures.appends (reasons_of t c.args.plan.now (get_or c.args.plan.now c.args.k 0)) reasons)).text in
+          let text = (then c.step-begin.ensures.1 (c.lines.ensures.appends (reasons_of t c.args.plan.now (get_or c.args.plan.now c.args.k 0)) (rows_told _ reasons))).text in
           rw (c.wide-action.ensures.0, step.is_var, step.is_pre, ready.post c.args.k c.requires.0 opened) at text;
     }
