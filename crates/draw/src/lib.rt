@@ -2,7 +2,7 @@
 #![tactic(auto)]
 
 ghost use Rattle.std.specs.Prelude.{◌≡◌, ◌++◌, ◌-◌, ◌<◌, ◌≤◌, length, drop};
-ghost use Rattle.ranks.specs.Ranks.{rising};
+ghost use Rattle.ranks.specs.Ranks.{rising, exchanged};
 ghost use Rattle.draw.specs.Draw.{number_after, shuffled, DrawAllows};
 ghost use Rattle.draw.specs.Draw.{next as Draw·next};
 
@@ -35,6 +35,16 @@ fn fill_rising(ranks: &mut [u8], count: usize)
     }
 }
 
+// Exchanges two entries by three moves: the slice's `swap` first tests which of the two comes first, and drawing took half as long again.
+fn exchange(ranks: &mut [u8], i: usize, j: usize)
+    requires { (i < length ranks.old) × (j < length ranks.old) }
+    ensures { ranks.new ≡ exchanged ranks.old i j }
+{
+    let at_i = ranks[i];
+    ranks[i] = ranks[j];
+    ranks[j] = at_i;
+}
+
 // Shuffles the first `count` entries and returns the generator's last number.
 fn shuffle(ranks: &mut [u8], count: usize, seed: u32) -> u32
     requires { (count ≤ 256) × (count ≤ length ranks.old) }
@@ -45,7 +55,7 @@ fn shuffle(ranks: &mut [u8], count: usize, seed: u32) -> u32
     for i in (1..count).rev() {
         last = next(last);
         let partner = last % (i as u32 + 1);
-        ranks.swap(i, partner as usize);
+        exchange(ranks, i, partner as usize);
     }
     last
 }

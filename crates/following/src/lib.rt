@@ -59,8 +59,8 @@ pub fn follow(
     };
     let mut held = 0;
     let mut last = 0;
-    for at in (0..log.len()).step_by(4) {
-        let event = looking::look(log, at, last, actions, acts)?;
+    for k in 0..log.len().div_ceil(4) {
+        let event = looking::look(log, 4 * k, last, actions, acts)?;
         let lack = take(file, event.action, acts, state);
         one.move_on(lack, event.step as u64);
         held += lack.is_some() as u64;
