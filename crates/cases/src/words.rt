@@ -1,5 +1,5 @@
 // The words and arguments of a line, and parts of slices. What is not there is 0 or empty, and what does not fit is left out.
-ghost use Rattle.std.specs.Prelude.{◌<◌};
+ghost use Rattle.std.specs.Prelude.{◌<◌, ◌≤◌, length};
 
 // The line's first word as a number: its letters, of a longer one the last eight, as bytes of a number; run is 0x72756e. A word stays
 // a number, since a longer one that ends in eight letters of a call makes that call, and the program answers every input as it did.
@@ -42,7 +42,9 @@ pub(crate) fn bytes(line: &[u8], k: usize, into: &mut [u8], n: usize) -> usize {
 }
 
 // What the line has behind its k-th space.
-fn behind(line: &[u8], k: usize) -> &[u8] {
+fn behind(line: &[u8], k: usize) -> &[u8]
+    ensures { length result.now ≤ length line.now }
+{
     let mut spaces = k;
     for (i, byte) in line.iter().enumerate() {
         if spaces == 0 {
