@@ -29,6 +29,11 @@ Looks t p log at (Ok e) =
     ≡ replay_on t (seen p (action_at t.actions e.action) e.tick e.step) (at + event_length) (log_of (drop (at + event_length) log))
 Looks t p log at (Err r) = replay_on t p at (log_of (drop at log)) ≡ stops (refused r)
 
+-- what is behind the whole events is the log's end, or what the definition refuses there
+abbrev pub Left : Study → Progress → List ℕ → ℕ → Result Unit Refusal → Type 0
+Left t p log at (Ok u) = length log ≤ at
+Left t p log at (Err r) = Looks t p log at (Err r)
+
 -- an event's action, from one table to the next
 pub record Takes (t : Study) (i : ℕ) (table table' : List ℕ) (lack : Option Want) : Type 0 where
   pub stance : lack ≡ stance_of (lacks (shown t table) (action_at t.actions i))

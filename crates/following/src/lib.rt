@@ -59,13 +59,15 @@ pub fn follow(
     };
     let mut held = 0;
     let mut last = 0;
-    for k in 0..log.len().div_ceil(4) {
+    let many = looking::whole(log);
+    for k in 0..many {
         let event = looking::look(log, 4 * k, last, actions, acts)?;
         let lack = take(file, event.action, acts, state);
         one.move_on(lack, event.step as u64);
         held += lack.is_some() as u64;
         last = event.tick;
     }
+    looking::behind(log, 4 * many)?;
     Ok(Followed {
         occupant: one,
         done: (log.len() / 4) as u64 - held,

@@ -1,6 +1,6 @@
 -- `following::follow` meets its contract. The loop's invariant: what is left of the log, from here, gives what all of it gives from the start.
 -- Assumes nothing.
-use mathlib.Core.Path.{◌≡◌}
+use mathlib.Core.Path.{◌≡◌, ◌∙◌}
 use Prim.Native.Nat.{◌+◌, ◌*◌, ◌≤◌}
 use lib.ListN.{length}
 use Rattle.std.proofs.Common.{arith}
@@ -26,6 +26,8 @@ loop-k-preserved c =
     (turned c.loop-k.invariant c.in_ok-event.event c.in_ok-event.ensures.sound c.in_ok-event.ensures.by_index c.take-lack.result c.take-lack.ensures)
 
 pub returns : goal.returns
-returns c =
-    let all : length c.args.log.now ≤ 4 * c.loop-k.k = omega (arith, c.loop-k-test.false, c.div_ceil-k-end.ensures) in
-    followed c.loop-k.invariant all
+returns c t ready long starts =
+    let h = c.loop-k.invariant.halfway t ready long starts in
+    let here : 4 * c.whole-many.result ≡ 4 * c.loop-k.k = omega (arith, c.loop-k-test.false, c.loop-k.auto.k-end) in
+    let all : length c.args.log.now ≤ 4 * c.whole-many.result = rw c.in_ok-behind.was at (c.behind.ensures t h.progress (here ∙ h.place)) in
+    followed c.loop-k.invariant (omega (arith, all, here)) t ready long starts
