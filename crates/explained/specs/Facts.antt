@@ -5,7 +5,7 @@ use Rattle.facts.specs.declared.Fact.{Fact as FactRow}
 use Rattle.facts.specs.declared.Fact.TheVariants.{Goal, Set, Unset, Round, Wants, Start, Walk, Ring, After}
 use Rattle.facts.specs.declared.Rule.{Rule as RuleRow}
 use Rattle.facts.specs.declared.Rule.TheVariants.{Next, Sets, Leaves}
-use Rattle.facts.specs.Rows.{rule_in, bytes_in}
+pub use Rattle.facts.specs.Rows.{rule_in, bytes_in}
 use Rattle.telling.specs.Text.{spaced, line_end}
 
 -- the rules of 'comes before': (a), (b), (c)

@@ -6,11 +6,11 @@ use lib.ListN.{length, get_or, length-map}
 use lib.Seq.{take_all}
 use Rattle.std.proofs.Common.{arith, rules}
 use Rattle.std.proofs.Math.ListN.{get_or-map}
-use Rattle.wording.proofs.Told.{no_facts, line_put}
+use Rattle.wording.proofs.Told.{no_rows, row_put}
 use Rattle.wording.proofs.lines.Goals as goal
 
 pub loop-fact-init : goal.loop-fact-init
-loop-fact-init g c = (search rules, search rules, no_facts)
+loop-fact-init g c = (search rules, search rules, no_rows)
 
 pub loop-fact-preserved : goal.loop-fact-preserved
 loop-fact-preserved g c =
@@ -22,7 +22,7 @@ loop-fact-preserved g c =
     let here : get_or (map bytes facts) k (bytes fact) ≡ bytes fact = get_or-map bytes facts k fact ∙ ap bytes (sym c.fact-item.is) in (
       omega arith,
       search rules,
-      line_put (map bytes facts) k (bytes fact) (omega (arith, many)) c.loop-fact.invariant.2
+      row_put (map bytes facts) k (bytes fact) (omega (arith, many)) c.loop-fact.invariant.2
           (λ f e. c.line-at.ensures.appends f (c.row.ensures ∙ (sym here ∙ e))),
     )
 
